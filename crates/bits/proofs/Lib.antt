@@ -1,0 +1,4 @@
+pub mod ChoiceLaws
+pub mod FieldLaws
+pub mod CountLaws
+pub mod WordLaws

@@ -1,0 +1,14 @@
+-- A choice between two values by a test, and a number's place in a list.
+use Prim.Native.Nat.{ℕ}
+use mathlib.Core.Bool.{Bool, true, false, _||_}
+use mathlib.Core.List.{List, [], _∷_}
+use lib.Dec.{eqb}
+
+abbrev pub pick : {A : Type 0} → Bool → A → A → A
+pick true a b = a
+pick false a b = b
+
+-- whether x stands in the list
+abbrev pub oneOf : List ℕ → ℕ → Bool
+oneOf [] x = false
+oneOf (k ∷ ks) x = eqb x k || oneOf ks x

@@ -1,0 +1,4 @@
+pub mod Choice
+pub mod Field
+pub mod Word
+pub mod Count

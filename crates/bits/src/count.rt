@@ -1,0 +1,28 @@
+// Counts over a nibble, the low four bits of a byte.
+ghost use mathlib.Core.Path.{_≡_};
+ghost use Prim.Native.Nat.{_%_};
+ghost use Rattle.bits.specs.Count.{clearBelow, clearAbove, setBits};
+
+pub fn clear_below(x: u8) -> u32
+    ensures { λ r. ⌜ r ≡ clearBelow 4 (x % 16) ⌝ }
+{
+    let n = x % 16;
+    if n == 0 {
+        return 4;
+    }
+    u32::trailing_zeros(n as u32)
+}
+
+pub fn clear_above(x: u8) -> u32
+    ensures { λ r. ⌜ r ≡ clearAbove 4 (x % 16) ⌝ }
+{
+    let n = x % 16;
+    u32::leading_zeros(n as u32) - 28
+}
+
+pub fn set_bits(x: u8) -> u32
+    ensures { λ r. ⌜ r ≡ setBits 4 (x % 16) ⌝ }
+{
+    let n = x % 16;
+    u32::count_ones(n as u32)
+}

@@ -1,0 +1,3 @@
+// Bytes, numbers of several bytes and counts of bits, for any input.
+pub mod count;
+pub mod word;

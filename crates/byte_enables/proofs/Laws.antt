@@ -1,0 +1,99 @@
+-- What holds of every access: how far in its bytes start and end, and how many are enabled.
+use mathlib.Core.Path.{_≡_, refl}
+use mathlib.Core.Bool.{Bool, true, false}
+use mathlib.Core.Logic.{⊎-elim}
+use Prim.Native.Nat.{ℕ, zero, suc, _+_, _*_, _/_, _%_, _≤_, _<_, zero-le}
+use native.Mathlib.Nat.{zero-add, suc-add, add-zero, add-assoc, eq-zero-or-pos, zero-lt-suc, mod-lt}
+use native.Mathlib.Numerals.{one-add}
+use native.Mathlib.Omega.{arith}
+use lib.Dec.{eqb}
+use borrow.Author.Tests.{eq-eqb, ne-eqb, le-leb, lt-leb}
+use Rattle.bits.specs.Count.{clearBelow, clearAbove, setBits}
+use Rattle.bits.specs.Choice.{pick}
+use Rattle.bits.specs.Field.{field}
+use Rattle.bits.proofs.CountLaws.{set-le, below-above}
+use Rattle.byte_enables.specs.declared.Access.{Access}
+use Rattle.byte_enables.specs.Enables.{off, ending, trail, enablesAt, enabled, enabledBytes}
+
+-- ---- where the bytes start and end
+
+-- the clear bits at both ends of a nibble, and at most 3 of them
+both-ends : (n : ℕ) → pick (eqb (n % 16) 0) 0 (clearBelow 4 (n % 16)) + pick (eqb (n % 16) 0) 3 (clearAbove 4 (n % 16)) ≤ 3
+both-ends n =
+    ⊎-elim (λ e. rw (eq-eqb (n % 16) 0 e) (omega arith))
+    (λ (p : 0 < n % 16). rw (ne-eqb (n % 16) 0 (λ e. omega arith)) (omega (arith, below-above 4 (n % 16) p (omega arith))))
+    (eq-zero-or-pos (n % 16))
+
+pub off-lt : (a : Access) → off a < 4
+unfolding off
+off-lt a = omega (arith, both-ends (a .first))
+
+pub trail-lt : (a : Access) → trail a < 4
+unfolding trail
+trail-lt a = omega (arith, both-ends (ending a))
+
+pub off-trail : (a : Access) → a .length ≡ 1 → off a + trail a ≤ 3
+unfolding off trail
+off-trail a h = rw (eq-eqb (a .length) 1 h) (both-ends (a .first))
+
+-- ---- how many are enabled
+
+pub enabled-add : (a : Access) (m n p : ℕ) → enabledBytes a p (m + n) ≡ enabledBytes a p m + enabledBytes a (p + m) n
+unfolding enabledBytes
+enabled-add a zero n p = simp (zero-add, add-zero)
+enabled-add a (suc m) n p = simp (suc-add, enabled-add a m n (p + 1), add-assoc, one-add)
+
+pub enabled-from : (a : Access) (p n : ℕ) → enabledBytes a 0 (p + n) ≡ enabledBytes a 0 p + enabledBytes a p n
+enabled-from a p n = rw zero-add at (enabled-add a p n 0)
+
+pub enabled-le : (a : Access) (p n : ℕ) → enabledBytes a p n ≤ 4 * n
+unfolding enabledBytes
+enabled-le a p zero = zero-le
+enabled-le a p (suc n) = omega (arith, set-le 4 (enablesAt a p), enabled-le a (p + 1) n)
+
+-- none past the end
+pub enabled-none : (a : Access) (n p : ℕ) → a .length ≤ p → enabledBytes a p n ≡ 0
+unfolding enabledBytes enablesAt setBits
+enabled-none a zero p h = refl
+enabled-none a (suc n) p h = rw (le-leb (a .length) p h) (omega (arith, enabled-none a n (p + 1) (omega arith)))
+
+-- every byte between the first doubleword and the last
+pub enabled-middle : (a : Access) (n p : ℕ) → 0 < p → p + n < a .length → enabledBytes a p n ≡ 4 * n
+unfolding enabledBytes enablesAt setBits
+enabled-middle a zero p h l = refl
+enabled-middle a (suc n) p h l =
+    rw (lt-leb (a .length) p (omega arith), ne-eqb p 0 (λ e. omega arith), ne-eqb (p + 1) (a .length) (λ e. omega arith))
+    (omega (arith, enabled-middle a n (p + 1) (omega arith) (omega arith)))
+
+pub enabled-first : (a : Access) → 0 < a .length → enabledBytes a 0 1 ≡ setBits 4 (a .first % 16)
+unfolding enabledBytes enablesAt
+enabled-first a h = rw (lt-leb (a .length) 0 h) (omega arith)
+
+pub enabled-last : (a : Access) (p : ℕ) → 0 < p → p + 1 ≡ a .length → enabledBytes a p 1 ≡ setBits 4 (a .last % 16)
+unfolding enabledBytes enablesAt
+enabled-last a p h e =
+    rw (lt-leb (a .length) p (omega arith), ne-eqb p 0 (λ z. omega arith), eq-eqb (p + 1) (a .length) e) (omega arith)
+
+-- ---- byte by byte
+
+abbrev pub number : Bool → ℕ
+number true = 1
+number false = 0
+
+number-bit : (d : ℕ) → d < 2 → number (eqb d 1) ≡ d
+number-bit zero h = refl
+number-bit (suc zero) h = refl
+number-bit (suc (suc d)) h = absurd (omega arith)
+
+byte-count : (a : Access) (i j k : ℕ) → j < 4 → k ≡ 4 * i + j → number (enabled a k) ≡ field (enablesAt a i) j 1
+unfolding enabled
+byte-count a i j k h e =
+    let q : k / 4 ≡ i = omega arith in
+    let r : k % 4 ≡ j = omega arith in
+    rw (q, r) (number-bit (field (enablesAt a i) j 1) (mod-lt _ (zero-lt-suc 1)))
+
+pub enabled-count : (a : Access) (i : ℕ)
+    → number (enabled a (4 * i)) + number (enabled a (4 * i + 1)) + number (enabled a (4 * i + 2)) + number (enabled a (4 * i + 3)) ≡ enabledBytes a i 1
+unfolding enabledBytes setBits
+enabled-count a i =
+    omega (arith, byte-count a i 0 (4 * i) (omega arith) (omega arith), byte-count a i 1 (4 * i + 1) (omega arith) refl, byte-count a i 2 (4 * i + 2) (omega arith) refl, byte-count a i 3 (4 * i + 3) (omega arith) refl)

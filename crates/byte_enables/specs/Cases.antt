@@ -1,0 +1,55 @@
+-- Document 01's own cases of byte enables, P5 to P7, P10, P11 and a length of 2 with holes, computed.
+use Prim.Native.Nat.{ℕ}
+use mathlib.Core.Path.{_≡_, refl}
+use mathlib.Core.Bool.{Bool, true, false, _&&_, not}
+use mathlib.Core.List.{List, [], _∷_}
+use lib.Dec.{eqb}
+use Rattle.bits.specs.Choice.{pick}
+use Rattle.bits.specs.Count.{clearBelow, clearAbove, setBits}
+use Rattle.byte_enables.specs.declared.Access.{Access}
+use Rattle.byte_enables.specs.Enables.{enablesAllowed, off, trail, total, enablesAt, enabledBytes}
+
+-- what a row says of its access
+pub data Claim : Type 0 where
+  allowedIs : Bool → Claim
+  totalIs : ℕ → Claim
+  offIs : ℕ → Claim
+  trailIs : ℕ → Claim
+  bytesAre : ℕ → Claim
+
+pub record Row : Type 0 where
+  pub access : Access
+  pub claims : List Claim
+
+abbrev pub with : ℕ → ℕ → ℕ → Access
+with length first last = record { address = 0; length = length; first = first; last = last }
+
+-- in order: P5, P6, P7, P10, P11, holes
+abbrev pub cases : List Row
+cases =
+    record { access = with 1 0b1010 0b0000; claims = allowedIs true ∷ totalIs 3 ∷ offIs 1 ∷ [] }
+    ∷ record { access = with 1 0b0000 0b0000; claims = allowedIs true ∷ totalIs 1 ∷ offIs 0 ∷ trailIs 3 ∷ bytesAre 0 ∷ [] }
+    ∷ record { access = with 2 0b1100 0b0011; claims = allowedIs true ∷ totalIs 4 ∷ [] }
+    ∷ record { access = with 3 0b1010 0b1111; claims = allowedIs false ∷ [] }
+    ∷ record { access = with 2 0b1111 0b0000; claims = allowedIs false ∷ [] }
+    ∷ record { access = with 2 0b0101 0b1010; claims = allowedIs true ∷ [] }
+    ∷ []
+
+abbrev pub holds : Access → Claim → Bool
+holds a (allowedIs b) = pick b (enablesAllowed a) (not (enablesAllowed a))
+holds a (totalIs n) = eqb (total a) n
+holds a (offIs n) = eqb (off a) n
+holds a (trailIs n) = eqb (trail a) n
+holds a (bytesAre n) = eqb (enabledBytes a 0 (a .length)) n
+
+abbrev pub claimsHold : Access → List Claim → Bool
+claimsHold a [] = true
+claimsHold a (c ∷ cs) = holds a c && claimsHold a cs
+
+abbrev pub allHold : List Row → Bool
+allHold [] = true
+allHold (r ∷ rs) = claimsHold (r .access) (r .claims) && allHold rs
+
+pub cases-hold : allHold cases ≡ true
+unfolding enablesAllowed off trail total enablesAt enabledBytes clearBelow clearAbove setBits
+cases-hold = refl

@@ -1,0 +1,53 @@
+// The settings that every call is given, and their list.
+ghost use mathlib.Core.Path.{_≡_};
+ghost use Rattle.bits.specs.Choice.{oneOf};
+ghost use Rattle.tlp.specs.Settings.{sizes, boundaries, settingsListed};
+
+// Maximum payload size, maximum read request size and read completion boundary, in bytes.
+pub struct Settings {
+    pub mps: u32,
+    pub mrrs: u32,
+    pub rcb: u32,
+}
+
+fn size_listed(n: u32) -> bool
+    ensures { λ r. ⌜ r ≡ oneOf sizes n ⌝ }
+{
+    if n == 128 {
+        return true;
+    }
+    if n == 256 {
+        return true;
+    }
+    if n == 512 {
+        return true;
+    }
+    if n == 1024 {
+        return true;
+    }
+    if n == 2048 {
+        return true;
+    }
+    n == 4096
+}
+
+fn boundary_listed(n: u32) -> bool
+    ensures { λ r. ⌜ r ≡ oneOf boundaries n ⌝ }
+{
+    if n == 64 {
+        return true;
+    }
+    n == 128
+}
+
+pub fn settings_listed(s: Settings) -> bool
+    ensures { λ r. ⌜ r ≡ settingsListed s ⌝ }
+{
+    if size_listed(s.mps) {
+        if size_listed(s.mrrs) {
+            return boundary_listed(s.rcb);
+        }
+        return false;
+    }
+    false
+}

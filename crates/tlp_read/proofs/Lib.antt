@@ -1,0 +1,3 @@
+pub mod FieldReturns
+pub mod ReadReturns
+pub mod PayloadReturns
