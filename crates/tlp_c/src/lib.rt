@@ -1,0 +1,85 @@
+// The C face: reader and writer over numbers and byte slices. docs/RECORD.md lists the record's layout.
+pub mod record;
+
+use record::is_record_of;
+use record::packet_in;
+use record::record_of;
+use tlp::settings::Settings;
+use tlp::settings::settings_listed;
+use tlp_read::ReadAnswer;
+use tlp_write::WriteAnswer;
+ghost use mathlib.Core.Path.{_≡_};
+ghost use mathlib.Core.List.{_++_};
+ghost use Prim.Native.Nat.{ℕ};
+ghost use lib.ListN.{length, drop};
+ghost use Rattle.tlp_read.specs.Read.{readPacket};
+ghost use Rattle.tlp_c.specs.Calls.{settingsOf, readNumber, readRecord, writeNumber, writtenOut, writtenSize};
+
+// Reads a packet. Answers 0 with the packet's record over the front of record, or the number of the refusal with record as it was.
+#[no_mangle]
+pub extern "C" fn tollpebble_read(
+    mps: u32,
+    mrrs: u32,
+    rcb: u32,
+    packet: &[u8],
+    record: &mut [u8],
+) -> u32
+    ensures { λ r. ⌜ r ≡ readNumber (readPacket (settingsOf mps mrrs rcb) (now (packet .entry))) (length (now («record» .entry))) ⌝ }
+    ensures { λ _. ⌜ now («record» .exit) ≡ readRecord (readPacket (settingsOf mps mrrs rcb) (now (packet .entry))) (now («record» .entry)) ⌝ }
+{
+    let settings = Settings {
+        mps: mps,
+        mrrs: mrrs,
+        rcb: rcb,
+    };
+    let answer = tlp_read::read(settings, packet);
+    match answer {
+        ReadAnswer::Refused(r) => r.number,
+        ReadAnswer::Accepted(p) => {
+            if record.len() < 48 {
+                return 12;
+            }
+            let made = record_of(p);
+            bytes::copy(&made, record);
+            0
+        }
+    }
+}
+
+// Writes the packet that record describes, with its payload, over the front of out. Answers 0 with the packet's size in size, or the number of the
+// refusal with out and size as they were.
+#[no_mangle]
+pub extern "C" fn tollpebble_write(
+    mps: u32,
+    mrrs: u32,
+    rcb: u32,
+    record: &[u8],
+    payload: &[u8],
+    out: &mut [u8],
+    size: &mut u64,
+) -> u32
+    ensures { λ r. ⌜ r ≡ writeNumber (settingsOf mps mrrs rcb) (now («record» .entry)) (length (now (payload .entry))) (length (now (out .entry))) ⌝ }
+    ensures { λ _. ⌜ now (out .exit) ≡ writtenOut (settingsOf mps mrrs rcb) (now («record» .entry)) (now (payload .entry)) (now (out .entry)) ⌝ }
+    ensures { λ _. ⌜ now (size .exit) ≡ writtenSize (settingsOf mps mrrs rcb) (now («record» .entry)) (length (now (payload .entry))) (length (now (out .entry))) (now (size .entry)) ⌝ }
+{
+    let settings = Settings {
+        mps: mps,
+        mrrs: mrrs,
+        rcb: rcb,
+    };
+    if !settings_listed(settings) {
+        return 11;
+    }
+    let p = packet_in(record);
+    if !is_record_of(p, record) {
+        return 6;
+    }
+    let answer = tlp_write::write(settings, p, payload, out);
+    match answer {
+        WriteAnswer::Refused(r) => r.number,
+        WriteAnswer::Written(n) => {
+            *size = n as u64;
+            0
+        }
+    }
+}

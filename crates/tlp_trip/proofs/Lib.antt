@@ -1,0 +1,13 @@
+pub mod Tables
+pub mod Fits
+pub mod Front
+pub mod Layouts
+pub mod EachKind
+pub mod WriteRead
+pub mod ReadRows
+pub mod ReadMasks
+pub mod ReadWords
+pub mod ReadTypes
+pub mod ReadHeader
+pub mod ReadGiven
+pub mod ReadWrite

@@ -1,0 +1,4 @@
+pub mod GivenLaws
+pub mod LayoutLaws
+pub mod PutLaws
+pub mod WriteLaws

@@ -1,0 +1,150 @@
+-- Laws of writing, in the words of its returns.
+use Prim.Native.Nat.{ℕ, zero, suc, _+_, _*_, _≤_, _<_}
+use mathlib.Core.Path.{_≡_, refl, sym, ap, _∙_}
+use mathlib.Core.Bool.{Bool, true, false, not}
+use mathlib.Core.List.{List, [], _∷_, _++_, append-assoc}
+use native.Mathlib.Omega.{arith}
+use lib.Dec.{eqb, ltb, lit≤}
+use lib.ListN.{length, length-append}
+use borrow.Author.Tests.{eqb-true, ltb-false, not-false}
+use Rattle.bits.specs.Choice.{pick}
+use Rattle.bits.specs.Word.{bytes}
+use Rattle.byte_enables.specs.declared.Access.{Access}
+use Rattle.tlp.specs.Rows.{Row, row, first}
+use Rattle.tlp.proofs.RowLaws.{AllAbove, none-of}
+use Rattle.tlp.specs.PacketTypes.{headerDw}
+use Rattle.tlp.specs.Packets.{typeOf, accessOf}
+use Rattle.tlp.specs.Sizes.{dataBytes, digestBytes}
+use Rattle.tlp.specs.Settings.{settingsListed}
+use Rattle.tlp.specs.Contents.{contentRows}
+use Rattle.tlp.specs.declared.settings.Settings.{Settings}
+use Rattle.tlp.specs.declared.packet.Packet.{Packet}
+use Rattle.tlp.specs.declared.packet_type.PacketType.{PacketType}
+use Rattle.tlp_write.specs.declared.WriteAnswer.the-variants.{Written, Refused}
+use Rattle.tlp_write.specs.Put.{put}
+use Rattle.tlp_write.specs.Later.{laterRows}
+use Rattle.tlp_write.specs.Layout.{headerOf, digestOf, bytesOf, sizeOf}
+use Rattle.tlp_write.specs.Write.{givenRows, writeRows, writeAnswer, writePacket, overFront, writeOut}
+use Rattle.tlp_write.proofs.PutLaws.{put-front, put-next, length-put}
+use Rattle.tlp_write.proofs.LayoutLaws.{header-length}
+
+pub size-law : (p : Packet) (t : PacketType) (a : Access) (h d g : ℕ) → t ≡ typeOf p → a ≡ accessOf p → h ≡ headerDw t → d ≡ dataBytes t (a .length)
+    → g ≡ digestBytes (p .«has_digest») → 4 * h + d + g ≡ sizeOf p
+unfolding sizeOf
+size-law p t a h d g e f k l m = rw (← e, ← f, ← k, ← l, ← m)
+
+-- several rows by one call, none of which holds
+
+given-above : (p : Packet) → AllAbove (givenRows p)
+given-above p = (lit≤ tt, (lit≤ tt, (lit≤ tt, (lit≤ tt, tt))))
+
+content-above : (mps : ℕ) (t : PacketType) (p : Packet) → AllAbove (contentRows mps t p 0)
+content-above mps t p = (lit≤ tt, (lit≤ tt, (lit≤ tt, (lit≤ tt, tt))))
+
+module _ (r m : ℕ) (ys : List Row) (z : r ≡ 0) (q : m ≡ first ys) where
+  pub given-none : (p : Packet) → r ≡ first (givenRows p) → m ≡ first (givenRows p ++ ys)
+  given-none p e = none-of (givenRows p) ys r m (given-above p) e z q
+
+  pub content-none : (mps : ℕ) (t : PacketType) (p : Packet) → r ≡ first (contentRows mps t p 0) → m ≡ first (contentRows mps t p 0 ++ ys)
+  content-none mps t p e = none-of (contentRows mps t p 0) ys r m (content-above mps t p) e z q
+
+-- rows, of what the calls before them gave
+pub later-law : (c : Settings) (p : Packet) (n room m : ℕ) (t : PacketType) (a : Access) → t ≡ typeOf p → a ≡ accessOf p
+    → m
+    ≡ first (row 3 (not (eqb n (dataBytes t (a .length))))
+    ∷ (contentRows (c .mps) t p 0
+    ++ (row 12 (ltb room (sizeOf p))
+    ∷ [])))
+    → m ≡ first (laterRows c p n room)
+later-law c p n room m t a e h q = rw (e, h) at q
+
+pub ruleset later-laws = (later-law, content-none)
+
+-- ---- the packet over the output
+
+module _ (p : Packet) (payload : List ℕ) where
+  pub bytes-length : length (bytesOf p payload) ≡ length (headerOf p) + length payload + length (digestOf p)
+  unfolding bytesOf
+  bytes-length = simp length-append (omega arith)
+
+  module _ (out : List ℕ) where
+    pub front-put : (o1 o2 : List ℕ) (n : ℕ) → n ≡ length (headerOf p) → o1 ≡ put 0 (headerOf p) out → o2 ≡ put n payload o1
+        → o2 ≡ put 0 (headerOf p ++ payload) out
+    front-put o1 o2 n e f g = rw (f, e) at g ∙ put-next (headerOf p) payload out
+
+    pub front-end : (n r : ℕ) → n ≡ length (headerOf p) → r ≡ n + length payload → r ≡ length (headerOf p) + length payload
+    front-end n r e f = rw e at f
+
+    pub front-room : length (bytesOf p payload) ≤ length out → length (headerOf p) + length payload ≤ length out
+    front-room h = omega (arith, bytes-length)
+
+    module _ (o1 : List ℕ) (n : ℕ) (e : n ≡ length (headerOf p) + length payload) (f : o1 ≡ put 0 (headerOf p ++ payload) out) where
+      pub digest-room : length (bytesOf p payload) ≤ length out → n + length (digestOf p) ≤ length o1
+      digest-room h =
+          omega (arith, bytes-length, length-append (headerOf p) payload, ap length f ∙ length-put 0 (headerOf p ++ payload) out (omega (arith, bytes-length, length-append (headerOf p) payload)))
+
+      pub packet-put : (o2 : List ℕ) → o2 ≡ put n (digestOf p) o1 → o2 ≡ overFront (bytesOf p payload) out
+      unfolding bytesOf
+      packet-put o2 k =
+          rw (f, e, ← length-append) at k ∙ put-next (headerOf p ++ payload) (digestOf p) out ∙ put-front ((headerOf p ++ payload) ++ digestOf p) out ∙ rw (append-assoc (headerOf p) payload (digestOf p))
+
+-- ---- answers
+
+-- where no row holds, the first does not, and none of those after some rows
+
+first-not : (ys : List Row) (n : ℕ) (b : Bool) → 0 < n → first (row n b ∷ ys) ≡ 0 → b ≡ false
+unfolding first
+first-not ys n true h e = absurd (omega arith)
+first-not ys n false h e = refl
+
+rest-none : (xs ys : List Row) → AllAbove xs → first (xs ++ ys) ≡ 0 → first ys ≡ 0
+unfolding first
+rest-none [] ys a e = e
+rest-none (x ∷ xs) ys a e = rest-none xs ys (a .1) (by (x .holds) e)
+  where
+    by : (t : Bool) → pick t (x .number) (first (xs ++ ys)) ≡ 0 → first (xs ++ ys) ≡ 0
+    by true q = absurd (omega (arith, a .0))
+    by false q = q
+
+digest-length : (p : Packet) → length (digestOf p) ≡ digestBytes (p .«has_digest»)
+unfolding digestOf digestBytes
+digest-length p = by (p .«has_digest»)
+  where
+    by : (b : Bool) → length (pick b (bytes 4 (p .digest)) []) ≡ pick b 4 0
+    by true = refl
+    by false = refl
+
+pub size-of-bytes : (p : Packet) (payload : List ℕ) → length payload ≡ dataBytes (typeOf p) (accessOf p .length) → length (bytesOf p payload) ≡ sizeOf p
+unfolding sizeOf
+size-of-bytes p payload h = omega (arith, bytes-length p payload, header-length p, digest-length p)
+
+module _ (c : Settings) (p : Packet) (payload out : List ℕ) (n : ℕ) (e : n ≡ first (writeRows c p (length payload) (length out))) where
+  pub refused : (n ≡ 0 → ⊥) → Refused (record { number = n }) ≡ writePacket c p (length payload) (length out)
+  unfolding writePacket
+  refused z = rw (← e) (answer n z)
+    where
+      answer : (n : ℕ) → (n ≡ 0 → ⊥) → Refused (record { number = n }) ≡ writeAnswer n (sizeOf p)
+      answer zero z = absurd (z refl)
+      answer (suc n) z = refl
+
+  pub refused-out : (n ≡ 0 → ⊥) → out ≡ writeOut c p payload out
+  unfolding writeOut
+  refused-out z = rw (← (refused z))
+
+  pub written : (s : ℕ) → n ≡ 0 → s ≡ sizeOf p → Written s ≡ writePacket c p (length payload) (length out)
+  unfolding writePacket
+  written s z k = rw (← e, z, k)
+
+  pub written-out : (last : List ℕ) → n ≡ 0 → last ≡ overFront (bytesOf p payload) out → last ≡ writeOut c p payload out
+  unfolding writeOut
+  written-out last z k = rw (← (written (sizeOf p) z refl)) k
+
+  pub written-room : n ≡ 0 → length (bytesOf p payload) ≤ length out
+  written-room z =
+      let size = dataBytes (typeOf p) (accessOf p .length) in
+      let bad = not (eqb (length payload) size) in
+      let later = rest-none (row 11 (not (settingsListed c)) ∷ givenRows p) (laterRows c p (length payload) (length out)) (lit≤ tt, given-above p) (sym e ∙ z) in
+      let d = first-not _ 3 bad (lit≤ tt) later in
+      let last = rest-none (row 3 bad ∷ contentRows (c .mps) (typeOf p) p 0) (row 12 (ltb (length out) (sizeOf p)) ∷ []) (lit≤ tt, content-above (c .mps) (typeOf p) p) later in
+      let r = first-not [] 12 (ltb (length out) (sizeOf p)) (lit≤ tt) last in
+      omega (arith, size-of-bytes p payload (eqb-true (length payload) size (not-false (eqb (length payload) size) d)), ltb-false (length out) (sizeOf p) r)

@@ -1,0 +1,46 @@
+use Rattle.tlp_write.proofs.WriteLaws.{later-laws}
+use Rattle.tlp.proofs.RowLaws.{rows}
+use borrow.Author.Needs.{needs}
+use Rattle.tlp_write.proofs.later_number.Statement.{statement}
+use Rattle.tlp_write.proofs.later_number.Tie as tie
+
+type-of-requires : tie.Need-type-of-requires
+type-of-requires c κs = search needs
+
+access-of-requires : tie.Need-access-of-requires
+access-of-requires c κs = search needs
+
+data-bytes-requires : tie.Need-data-bytes-requires
+data-bytes-requires c κs = search needs
+
+returns : tie.Need-returns
+returns c = search (later-laws, rows) depth 12 fits 4000
+
+content-number-requires : tie.Need-content-number-requires
+content-number-requires c κs = search needs
+
+returns-2 : tie.Need-returns-2
+returns-2 c = search (later-laws, rows) depth 12 fits 4000
+
+size-of-requires : tie.Need-size-of-requires
+size-of-requires c κs = search needs
+
+returns-3 : tie.Need-returns-3
+returns-3 c = search (later-laws, rows) depth 12 fits 4000
+
+returns-4 : tie.Need-returns-4
+returns-4 c = search (later-laws, rows) depth 12 fits 4000
+
+pub later-number-spec : {M : Type 1} → statement M
+later-number-spec =
+    tie.close
+    (tie.spec
+    type-of-requires
+    access-of-requires
+    data-bytes-requires
+    returns
+    content-number-requires
+    returns-2
+    size-of-requires
+    returns-3
+    returns-4)

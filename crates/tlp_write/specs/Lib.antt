@@ -1,0 +1,6 @@
+pub mod Given
+pub mod Later
+pub mod Layout
+pub mod Padded
+pub mod Put
+pub mod Write

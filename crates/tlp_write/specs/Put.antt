@@ -1,0 +1,8 @@
+-- Bytes laid over a part of a list.
+use Prim.Native.Nat.{ℕ, _+_}
+use mathlib.Core.List.{List, _++_}
+use lib.ListN.{length, take, drop}
+
+-- out with src over it from index at on
+unfoldable pub put : ℕ → List ℕ → List ℕ → List ℕ
+put at src out = take at out ++ (src ++ drop (at + length src) out)
