@@ -1,4 +1,4 @@
--- Document 01's own cases of byte enables, P5 to P7, P10, P11 and a length of 2 with holes, computed.
+-- Document 01's own cases of byte enables, P5 to P7, P10 and P11, a length of 2 with holes, and bit 0 as the lowest byte, computed.
 use Prim.Native.Nat.{ℕ}
 use mathlib.Core.Path.{_≡_, refl}
 use mathlib.Core.Bool.{Bool, true, false, _&&_, not}
@@ -7,7 +7,7 @@ use lib.Dec.{eqb}
 use Rattle.bits.specs.Choice.{pick}
 use Rattle.bits.specs.Count.{clearBelow, clearAbove, setBits}
 use Rattle.byte_enables.specs.declared.Access.{Access}
-use Rattle.byte_enables.specs.Enables.{enablesAllowed, off, trail, total, enablesAt, enabledBytes}
+use Rattle.byte_enables.specs.Enables.{enablesAllowed, off, trail, total, enablesAt, enabled, enabledBytes}
 
 -- what a row says of its access
 pub data Claim : Type 0 where
@@ -16,6 +16,8 @@ pub data Claim : Type 0 where
   offIs : ℕ → Claim
   trailIs : ℕ → Claim
   bytesAre : ℕ → Claim
+  -- byte k of the window is enabled, or is not
+  byteIs : ℕ → Bool → Claim
 
 pub record Row : Type 0 where
   pub access : Access
@@ -24,7 +26,7 @@ pub record Row : Type 0 where
 abbrev pub with : ℕ → ℕ → ℕ → Access
 with length first last = record { address = 0; length = length; first = first; last = last }
 
--- in order: P5, P6, P7, P10, P11, holes
+-- in order: P5, P6, P7, P10, P11, holes, the order of the bits
 abbrev pub cases : List Row
 cases =
     record { access = with 1 0b1010 0b0000; claims = allowedIs true ∷ totalIs 3 ∷ offIs 1 ∷ [] }
@@ -33,6 +35,7 @@ cases =
     ∷ record { access = with 3 0b1010 0b1111; claims = allowedIs false ∷ [] }
     ∷ record { access = with 2 0b1111 0b0000; claims = allowedIs false ∷ [] }
     ∷ record { access = with 2 0b0101 0b1010; claims = allowedIs true ∷ [] }
+    ∷ record { access = with 3 0b1000 0b0001; claims = byteIs 0 false ∷ byteIs 3 true ∷ byteIs 4 true ∷ byteIs 8 true ∷ byteIs 9 false ∷ byteIs 12 false ∷ bytesAre 6 ∷ [] }
     ∷ []
 
 abbrev pub holds : Access → Claim → Bool
@@ -41,6 +44,7 @@ holds a (totalIs n) = eqb (total a) n
 holds a (offIs n) = eqb (off a) n
 holds a (trailIs n) = eqb (trail a) n
 holds a (bytesAre n) = eqb (enabledBytes a 0 (a .length)) n
+holds a (byteIs k b) = pick b (enabled a k) (not (enabled a k))
 
 abbrev pub claimsHold : Access → List Claim → Bool
 claimsHold a [] = true
@@ -51,5 +55,5 @@ allHold [] = true
 allHold (r ∷ rs) = claimsHold (r .access) (r .claims) && allHold rs
 
 pub cases-hold : allHold cases ≡ true
-unfolding enablesAllowed off trail total enablesAt enabledBytes clearBelow clearAbove setBits
+unfolding enablesAllowed off trail total enablesAt enabled enabledBytes clearBelow clearAbove setBits
 cases-hold = refl

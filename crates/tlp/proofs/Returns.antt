@@ -3,8 +3,7 @@ use Prim.Native.Nat.{ℕ, zero, suc, _+_, _*_, _/_, _%_, _^_, _≤_}
 use native.Mathlib.Omega.{arith}
 use mathlib.Core.List.{List}
 use lib.ListN.{length}
-use lib.Dec.{eqb, leb, lit<}
-use Rattle.tlp.proofs.RowLaws.{AllAbove}
+use lib.Dec.{eqb, leb}
 use borrow.Author.Tests.{ne-eqb, le-leb, lt-leb, leb-true}
 use native.Mathlib.Nat.{lt-of-not-le}
 use Rattle.bits.specs.Word.{byte}
@@ -55,13 +54,6 @@ module _ (s : List ℕ) (b : ℕ) (t : PacketType) (n : ℕ) (e : b ≡ byte s 0
   size-bytes r z k = rw (← number-is, z, ← e, ← h) (ap Bytes k)
 
 pub ruleset size-laws = (size-refused, size-bytes)
-
--- the numbers of these rows are above 0
-pub content-above : (mps : ℕ) (t : PacketType) (p : Packet) (at : ℕ) → AllAbove (contentRows mps t p at)
-content-above mps t p at = (lit< tt, (lit< tt, (lit< tt, (lit< tt, tt))))
-
-pub size-above : (s : List ℕ) → AllAbove (sizeRows s)
-size-above s = (lit< tt, (lit< tt, (lit< tt, tt)))
 
 -- byte 0 of a message, and of no packet
 

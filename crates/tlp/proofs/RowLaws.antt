@@ -2,12 +2,13 @@
 use Prim.Native.Nat.{ℕ, zero, suc, _≤_, _<_}
 use mathlib.Core.Path.{_≡_, refl, sym, ap, _∙_}
 use mathlib.Core.List.{List, [], _∷_, _++_}
-use mathlib.Core.Bool.{Bool, true, false, not}
+use mathlib.Core.Logic.{inl, inr}
+use mathlib.Core.Bool.{Bool, true, false, _&&_, not, and-eq-true-iff}
 use native.Mathlib.Omega.{arith}
-use lib.Dec.{ltb, eqb}
-use borrow.Author.Tests.{lt-ltb, le-ltb, eq-eqb, ne-eqb}
+use lib.Dec.{ltb, leb, eqb}
+use borrow.Author.Tests.{lt-ltb, le-ltb, eq-eqb, ne-eqb, leb-true}
 use Rattle.bits.specs.Choice.{pick}
-use Rattle.tlp.specs.Rows.{Row, row, first}
+use Rattle.tlp.specs.Rows.{Row, row, first, Given, NoneHold, numbered, GivenExactly, NoneExactly}
 
 module _ (rs : List Row) (n : ℕ) where
   pub here : (r b : Bool) → r ≡ b → r ≡ true → n ≡ first (row n b ∷ rs)
@@ -68,18 +69,65 @@ unfolding first
 some-of [] ys r e h = absurd (h e)
 some-of (x ∷ xs) ys r e h = keep (x .holds) r (x .number) (first xs) (first (xs ++ ys)) (λ q. some-of xs ys r q h) e
 
--- whether every row's number is above 0
-abbrev pub AllAbove : List Row → Type 0
-AllAbove [] = Unit {0}
-AllAbove (x ∷ xs) = (0 < x .number) × AllAbove xs
-
-skip : (b : Bool) (r m n k l : ℕ) → 0 < n → r ≡ 0 → (r ≡ k → m ≡ l) → r ≡ pick b n k → m ≡ pick b n l
-skip true r m n k l a h f q = absurd (omega arith)
+skip : (b : Bool) (r m n k l : ℕ) → leb 1 n ≡ true → r ≡ 0 → (r ≡ k → m ≡ l) → r ≡ pick b n k → m ≡ pick b n l
+skip true r m n k l a h f q = absurd (omega (arith, leb-true 1 n a))
 skip false r m n k l a h f q = f q
 
-pub none-of : (xs ys : List Row) (r m : ℕ) → AllAbove xs → r ≡ first xs → r ≡ 0 → m ≡ first ys → m ≡ first (xs ++ ys)
+pub none-of : (xs ys : List Row) (r m : ℕ) → numbered xs ≡ true → r ≡ first xs → r ≡ 0 → m ≡ first ys → m ≡ first (xs ++ ys)
 unfolding first
 none-of [] ys r m a e h q = q
-none-of (x ∷ xs) ys r m a e h q = skip (x .holds) r m (x .number) (first xs) (first (xs ++ ys)) (a .0) h (λ k. none-of xs ys r m (a .1) k h q) e
+none-of (x ∷ xs) ys r m a e h q =
+    let b = and-eq-true-iff (leb 1 (x .number)) (numbered xs) .0 a in
+    skip (x .holds) r m (x .number) (first xs) (first (xs ++ ys)) (b .0) h (λ k. none-of xs ys r m (b .1) k h q) e
 
 pub ruleset rows = (here, next, here-not, next-not, here-lt, next-lt, here-lt-call, next-lt-call, here-ne-call, next-ne-call, none, some-of, none-of)
+
+-- ---- what the number says of the rows
+
+given-row : (b : Bool) (r : Row) (rs : List Row) (n : ℕ) → r .holds ≡ b → 0 < n → (first rs ≡ n → Given n rs) → pick b (r .number) (first rs) ≡ n → Given n (r ∷ rs)
+given-row true r rs n e p f q = inl (e, q)
+given-row false r rs n e p f q = inr (e, f q)
+
+first-given : (rs : List Row) (n : ℕ) → 0 < n → first rs ≡ n → Given n rs
+unfolding first
+first-given [] n p e = absurd (omega arith)
+first-given (r ∷ rs) n p e = given-row (r .holds) r rs n refl p (first-given rs n p) e
+
+given-first : (rs : List Row) (n : ℕ) → Given n rs → first rs ≡ n
+unfolding first
+given-first [] n g = absurd g
+given-first (r ∷ rs) n (inl g) = rw (g .0) (g .1)
+given-first (r ∷ rs) n (inr g) = rw (g .0) (given-first rs n (g .1))
+
+pub given-exactly : GivenExactly
+given-exactly rs n p = (first-given rs n p, given-first rs n)
+
+pub none-first : (rs : List Row) → NoneHold rs → first rs ≡ 0
+unfolding first
+none-first [] h = refl
+none-first (r ∷ rs) h = rw (h .0, none-first rs (h .1))
+
+row-none : (n : ℕ) (b : Bool) (later : ℕ) → leb 1 n ≡ true → pick b n later ≡ 0 → (b ≡ false) × (later ≡ 0)
+row-none n true later k e = absurd (omega (arith, leb-true 1 n k))
+row-none n false later k e = (refl, e)
+
+pub first-none : (rs : List Row) → numbered rs ≡ true → first rs ≡ 0 → NoneHold rs
+unfolding first
+first-none [] k e = tt
+first-none (r ∷ rs) k e =
+    let m = and-eq-true-iff (leb 1 (r .number)) (numbered rs) .0 k in
+    let h = row-none (r .number) (r .holds) (first rs) (m .0) e in
+    (h .0, first-none rs (m .1) (h .1))
+
+pub none-exactly : NoneExactly
+none-exactly rs k = (first-none rs k, none-first rs)
+
+pub none-join : (ps qs : List Row) → NoneHold ps → NoneHold qs → NoneHold (ps ++ qs)
+none-join [] qs h k = k
+none-join (p ∷ ps) qs h k = (h .0, none-join ps qs (h .1) k)
+
+pub none-split : (ps qs : List Row) → NoneHold (ps ++ qs) → NoneHold ps × NoneHold qs
+none-split [] qs h = (tt, h)
+none-split (p ∷ ps) qs h =
+    let r = none-split ps qs (h .1) in
+    ((h .0, r .0), r .1)

@@ -61,6 +61,6 @@ accessIn a (MessageData m n) = lengthAlone n
 accessIn a (Completion q) = lengthAlone 0
 accessIn a (CompletionData c n) = lengthAlone n
 
--- address, length and enables, each 0 where the kind has none: "Msg and Cpl have no length"
+-- address, length and enables, each 0 where the kind has none: of lengths, "Msg and Cpl have none"
 unfoldable pub accessOf : Packet → Access
 accessOf p = accessIn (addressOf (p .route)) (p .kind)

@@ -51,6 +51,11 @@ abbrev pub sizeAnswer : ℕ → ℕ → PacketSize
 sizeAnswer zero size = Bytes size
 sizeAnswer (suc n) size = Refused (record { number = suc n })
 
+-- the number of an answer; 0 where there is a size
+abbrev pub numberOf : PacketSize → ℕ
+numberOf (Bytes n) = 0
+numberOf (Refused r) = r .number
+
 -- the size that the header at the front of the bytes calls for, or the number that says why there is none
 unfoldable pub sizeCalled : List ℕ → PacketSize
 sizeCalled s = sizeAnswer (first (sizeRows s)) (bytesCalled (typeAt (byte s 0)) s)

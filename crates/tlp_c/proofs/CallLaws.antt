@@ -15,7 +15,10 @@ use Rattle.tlp_read.specs.declared.ReadAnswer.the-variants.{Accepted, Refused}
 use Rattle.tlp_write.specs.declared.WriteAnswer.{WriteAnswer}
 use Rattle.tlp_write.specs.declared.WriteAnswer.the-variants.{Written, Refused as NotWritten}
 use Rattle.tlp_write.specs.Write.{writePacket, writeOut}
-use Rattle.tlp_c.specs.Record.{recordOf, packetIn, isRecord}
+use Rattle.bits.specs.Choice.{pick}
+use Rattle.tlp_record.specs.declared.RecordAnswer.{RecordAnswer}
+use Rattle.tlp_record.specs.declared.RecordAnswer.the-variants.{Described, NoRecord}
+use Rattle.tlp_record.specs.Record.{recordOf, packetIn, isRecord, describedBy}
 use Rattle.tlp_c.specs.Calls.{readNumber, readRecord, writeNumber, writtenOut, writtenSize}
 
 -- ---- reading
@@ -44,6 +47,15 @@ pub ruleset read-laws = (read-refused-number, read-refused-record, read-short-nu
 
 -- ---- writing
 
+-- a record answered by the packet that it describes, or by none
+none-is : (b : Bool) (p : Packet) → NoRecord ≡ pick b (Described p) NoRecord → b ≡ false
+none-is true p e = cc
+none-is false p e = refl
+
+some-is : (b : Bool) (p q : Packet) → Described q ≡ pick b (Described p) NoRecord → (b ≡ true) × (q ≡ p)
+some-is true p q e = (refl, cc)
+some-is false p q e = (cc, cc)
+
 module _ (c : Settings) (s : List ℕ) (l : Bool) (el : l ≡ settingsListed c) where
   module _ (h : not l ≡ true) where
     pub unlisted-number : (n room : ℕ) → 11 ≡ writeNumber c s n room
@@ -58,38 +70,46 @@ module _ (c : Settings) (s : List ℕ) (l : Bool) (el : l ≡ settingsListed c) 
     unfolding writtenSize
     unlisted-size n room old = rw (← el, h)
 
-  module _ (h : not l ≡ false) (b : Bool) (eb : b ≡ isRecord s) where
-    module _ (k : not b ≡ true) where
+  module _ (h : not l ≡ false) (d : RecordAnswer) (ed : d ≡ describedBy s) where
+    module _ (k : d ≡ NoRecord) where
+      is-none : isRecord s ≡ false
+      unfolding describedBy
+      is-none = none-is (isRecord s) (packetIn s) (sym k ∙ ed)
+
       pub no-record-number : (n room : ℕ) → 6 ≡ writeNumber c s n room
       unfolding writeNumber
-      no-record-number n room = rw (← el, h, ← eb, k)
+      no-record-number n room = rw (← el, h, is-none)
 
       pub no-record-out : (payload out : List ℕ) → out ≡ writtenOut c s payload out
       unfolding writtenOut
-      no-record-out payload out = rw (← el, h, ← eb, k)
+      no-record-out payload out = rw (← el, h, is-none)
 
       pub no-record-size : (n room old : ℕ) → old ≡ writtenSize c s n room old
       unfolding writtenSize
-      no-record-size n room old = rw (← el, h, ← eb, k)
+      no-record-size n room old = rw (← el, h, is-none)
 
-    module _ (k : not b ≡ false) (p : Packet) (ep : p ≡ packetIn s) where
+    module _ (p : Packet) (k : d ≡ Described p) where
+      is-some : (isRecord s ≡ true) × (p ≡ packetIn s)
+      unfolding describedBy
+      is-some = some-is (isRecord s) (packetIn s) p (sym k ∙ ed)
+
       pub written-out : (payload out o : List ℕ) → o ≡ writeOut c p payload out → o ≡ writtenOut c s payload out
       unfolding writtenOut
-      written-out payload out o q = rw (← el, h, ← eb, k, ← ep) q
+      written-out payload out o q = rw (← el, h, is-some .0, ← is-some .1) q
 
       module _ (n room : ℕ) (x : WriteAnswer) (ex : x ≡ writePacket c p n room) where
         pub not-written-number : (r : Refusal) → x ≡ NotWritten r → r .number ≡ writeNumber c s n room
         unfolding writeNumber
-        not-written-number r q = rw (← el, h, ← eb, k, ← ep, ← ex, q)
+        not-written-number r q = rw (← el, h, is-some .0, ← is-some .1, ← ex, q)
 
         pub not-written-size : (r : Refusal) (old : ℕ) → x ≡ NotWritten r → old ≡ writtenSize c s n room old
         unfolding writtenSize
-        not-written-size r old q = rw (← el, h, ← eb, k, ← ep, ← ex, q)
+        not-written-size r old q = rw (← el, h, is-some .0, ← is-some .1, ← ex, q)
 
         pub written-number : (m : ℕ) → x ≡ Written m → 0 ≡ writeNumber c s n room
         unfolding writeNumber
-        written-number m q = rw (← el, h, ← eb, k, ← ep, ← ex, q)
+        written-number m q = rw (← el, h, is-some .0, ← is-some .1, ← ex, q)
 
         pub written-size : (m old : ℕ) → x ≡ Written m → m ≡ writtenSize c s n room old
         unfolding writtenSize
-        written-size m old q = rw (← el, h, ← eb, k, ← ep, ← ex, q)
+        written-size m old q = rw (← el, h, is-some .0, ← is-some .1, ← ex, q)

@@ -13,13 +13,13 @@ use Rattle.tlp_read.specs.Read.{readPacket}
 use Rattle.tlp_write.specs.declared.WriteAnswer.{WriteAnswer}
 use Rattle.tlp_write.specs.declared.WriteAnswer.the-variants.{Written, Refused as NotWritten}
 use Rattle.tlp_write.specs.Write.{writePacket, writeOut, overFront, numberOf}
-use Rattle.tlp_c.specs.Record.{recordOf, packetIn, isRecord}
+use Rattle.tlp_record.specs.Record.{recordOf, packetIn, isRecord}
 
 -- settings as numbers
 abbrev pub settingsOf : ℕ → ℕ → ℕ → Settings
 settingsOf mps mrrs rcb = record { mps = mps; mrrs = mrrs; rcb = rcb }
 
--- ---- reading: "a record that is too short is 12, checked last"
+-- ---- reading: a record that is too short is 12, looked at last
 
 abbrev pub readNumber : ReadAnswer → ℕ → ℕ
 readNumber (Accepted p) room = pick (ltb room 48) 12 0

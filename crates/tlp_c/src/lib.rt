@@ -1,12 +1,10 @@
 // The C face: reader and writer over numbers and byte slices. docs/RECORD.md lists the record's layout.
-pub mod record;
-
-use record::is_record_of;
-use record::packet_in;
-use record::record_of;
 use tlp::settings::Settings;
 use tlp::settings::settings_listed;
 use tlp_read::ReadAnswer;
+use tlp_record::RecordAnswer;
+use tlp_record::packet_of;
+use tlp_record::record_of;
 use tlp_write::WriteAnswer;
 ghost use mathlib.Core.Path.{_≡_};
 ghost use mathlib.Core.List.{_++_};
@@ -70,16 +68,18 @@ pub extern "C" fn tollpebble_write(
     if !settings_listed(settings) {
         return 11;
     }
-    let p = packet_in(record);
-    if !is_record_of(p, record) {
-        return 6;
-    }
-    let answer = tlp_write::write(settings, p, payload, out);
-    match answer {
-        WriteAnswer::Refused(r) => r.number,
-        WriteAnswer::Written(n) => {
-            *size = n as u64;
-            0
+    let described = packet_of(record);
+    match described {
+        RecordAnswer::NoRecord => 6,
+        RecordAnswer::Described(p) => {
+            let answer = tlp_write::write(settings, p, payload, out);
+            match answer {
+                WriteAnswer::Refused(r) => r.number,
+                WriteAnswer::Written(n) => {
+                    *size = n as u64;
+                    0
+                }
+            }
         }
     }
 }

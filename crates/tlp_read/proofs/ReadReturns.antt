@@ -21,7 +21,6 @@ use Rattle.tlp.specs.declared.refusal.Refusal.{Refusal}
 use Rattle.tlp.specs.declared.size.PacketSize.{PacketSize}
 use Rattle.tlp.specs.declared.size.PacketSize.the-variants.{Bytes, Refused as NoSize}
 use Rattle.tlp.proofs.RowLaws.{some-of, none-of, here, next, none, here-not, next-not, here-ne-call, next-ne-call}
-use Rattle.tlp.proofs.Returns.{content-above, size-above}
 use Rattle.tlp_read.specs.declared.ReadAnswer.{ReadAnswer}
 use Rattle.tlp_read.specs.declared.ReadAnswer.the-variants.{Accepted, Refused}
 use Rattle.tlp_read.specs.Fields.{hintAt, addressTypeAt, routingAt, packetAt}
@@ -70,7 +69,7 @@ module _ (mps : ℕ) (t : PacketType) (s : List ℕ) (h4 : Bool) (e4 : h4 ≡ hi
 
     module _ (z : n ≡ 0) (h9 : Bool) (e9 : h9 ≡ routingBad t s) where
       after-content : (m : ℕ) → m ≡ first (row 9 (routingBad t s) ∷ row 10 (formBad t s) ∷ []) → m ≡ first (judgeRows mps t s)
-      after-content m q = after-4 m (none-of (contentRows mps t (packetAt t s) (addressTypeAt s)) _ n m (content-above mps t (packetAt t s) (addressTypeAt s)) content-is z q)
+      after-content m q = after-4 m (none-of (contentRows mps t (packetAt t s) (addressTypeAt s)) _ n m refl content-is z q)
 
       pub judge-9 : h9 ≡ true → 9 ≡ first (judgeRows mps t s)
       judge-9 h = after-content 9 (here _ 9 h9 (routingBad t s) e9 h)
@@ -132,7 +131,7 @@ module _ (c : Settings) (s : List ℕ) (r : Bool) (e : r ≡ settingsListed c) w
       size-is = size-bytes-is (first (sizeRows s)) (bytesCalled (typeAt (byte s 0)) s) n (sym k ∙ ez)
 
       after-size : (m : ℕ) → m ≡ first (row 3 (not (eqb (length s) (bytesCalled (typeAt (byte s 0)) s))) ∷ judgeRows (c .mps) (typeAt (byte s 0)) s) → m ≡ first (readRows c s)
-      after-size m q = after-11 m (none-of (sizeRows s) _ (first (sizeRows s)) m (size-above s) refl (size-is .0) q)
+      after-size m q = after-11 m (none-of (sizeRows s) _ (first (sizeRows s)) m refl refl (size-is .0) q)
 
       pub read-3 : (x : ReadAnswer) → (length s ≡ n → ⊥) → x ≡ Refused (record { number = 3 }) → x ≡ readPacket c s
       unfolding readPacket

@@ -26,7 +26,7 @@ use Rattle.tlp_read.specs.Fields.{requestAt, routeAt, kindAt}
 use Rattle.tlp_read.specs.Read.{routingBad, formBad}
 use Rattle.tlp_write.specs.Layout.{routing, routingIn, idOf, requestBytes, memoryAddress, ownBytes}
 use Rattle.tlp_write.specs.Given.{lengthBad, requestBad, configBad, ownBad, routeBad}
-use Rattle.tlp_trip.proofs.Tables.{left-no, right-no}
+use Rattle.tlp_trip.proofs.Tests.{left-no, right-no}
 use Rattle.tlp_trip.proofs.Fits.{request-fits, config-fits}
 use Rattle.tlp_trip.proofs.Layouts.{top-word, LengthBack, request-back, config-back, message-back, completion-back}
 use Rattle.tlp_trip.proofs.Layouts.{AddressFits, address-fits, address-route, id-route, routing-small, message-route}

@@ -9,7 +9,7 @@ use Rattle.tlp.specs.declared.packet.ConfigRequest.{ConfigRequest}
 use Rattle.tlp.specs.declared.packet.MessageRequest.{MessageRequest}
 use Rattle.tlp.specs.declared.packet.CompletionHeader.{CompletionHeader}
 use Rattle.tlp.specs.declared.packet.Packet.{Packet}
-use Rattle.tlp_trip.proofs.Tables.{left-no, right-no}
+use Rattle.tlp_trip.proofs.Tests.{left-no, right-no}
 use Rattle.tlp_write.specs.Given.{over, outside, lengthBad, commonBad, requestBad, configBad, messageBad, completionBad}
 
 pub fits : (w x : ℕ) → over w x ≡ false → x < 2 ^ w

@@ -1,4 +1,4 @@
-pub mod Tables
+pub mod Tests
 pub mod Fits
 pub mod Front
 pub mod Layouts

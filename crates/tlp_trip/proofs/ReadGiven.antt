@@ -24,7 +24,8 @@ use Rattle.tlp_read.specs.Fields.{packetAt, attributesAt, digestWord, implicitA
 use Rattle.tlp_write.specs.Given.{over, lengthBad, commonBad, requestBad, configBad, messageBad, completionBad, ownBad, reservedGiven, addressRouteBad, idRouteBad, messageRouteBad, routeBad}
 use Rattle.tlp_write.specs.Write.{givenRows}
 use Rattle.tlp_trip.specs.RoundTrips.{Bytes}
-use Rattle.tlp_trip.proofs.Tables.{NoneHold, or-false}
+use Rattle.tlp.specs.Rows.{NoneHold}
+use Rattle.tlp_trip.proofs.Tests.{or-false}
 use Rattle.tlp_trip.proofs.ReadRows.{Sound}
 use Rattle.tlp_trip.proofs.ReadWords.{word-small, count-inside}
 use Rattle.tlp_trip.proofs.ReadTypes.{same-type}

@@ -22,7 +22,7 @@ use Rattle.tlp_read.specs.Fields.{packetAt, attributesAt, addressTypeAt, hintAt
 use Rattle.tlp_read.specs.Read.{hintsBad, formBad}
 use Rattle.tlp_write.specs.Layout.{flag, requestBytes, configBytes, messageBytes, completionBytes, memoryAddress, ownBytes, frontBytes, headerOf}
 use Rattle.tlp_trip.specs.RoundTrips.{Bytes}
-use Rattle.tlp_trip.proofs.Tables.{left-no, right-no}
+use Rattle.tlp_trip.proofs.Tests.{left-no, right-no}
 use Rattle.tlp_trip.proofs.ReadRows.{Sound}
 use Rattle.tlp_trip.proofs.ReadMasks.{under, whole-byte, memory-class, plain-class, other-class, digestBits, request-flags, data-flags, bare-flags, no-byte, enables-byte, extended-byte, register-byte, status-byte, lower-byte}
 use Rattle.tlp_trip.proofs.ReadWords.{Count, count, word-under, address-under}

@@ -18,7 +18,8 @@ use Rattle.tlp.specs.declared.packet_type.PacketType.{PacketType}
 use Rattle.tlp_read.specs.Fields.{addressTypeAt, packetAt}
 use Rattle.tlp_read.specs.Read.{readPacket, readRows, answerOf, hintsBad, routingBad, formBad}
 use Rattle.tlp_read.specs.declared.ReadAnswer.the-variants.{Accepted}
-use Rattle.tlp_trip.proofs.Tables.{NoneHold, first-none, none-split}
+use Rattle.tlp.specs.Rows.{NoneHold}
+use Rattle.tlp.proofs.RowLaws.{first-none, none-split}
 
 -- bytes of type t in which no row of the reader's table holds
 pub record Sound (c : Settings) (t : PacketType) (s : List ℕ) : Type 0 where

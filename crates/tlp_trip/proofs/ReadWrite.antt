@@ -28,7 +28,8 @@ use Rattle.tlp_write.specs.Layout.{digestOf, bytesOf, sizeOf}
 use Rattle.tlp_write.specs.Write.{givenRows, writeRows, writePacket}
 use Rattle.tlp_write.specs.declared.WriteAnswer.the-variants.{Written}
 use Rattle.tlp_trip.specs.RoundTrips.{Bytes, ReadThenWrite}
-use Rattle.tlp_trip.proofs.Tables.{NoneHold, none-first, none-join}
+use Rattle.tlp.specs.Rows.{NoneHold}
+use Rattle.tlp.proofs.RowLaws.{none-first, none-join}
 use Rattle.tlp_trip.proofs.ReadRows.{Sound, accepted}
 use Rattle.tlp_trip.proofs.ReadMasks.{masked-under}
 use Rattle.tlp_trip.proofs.ReadTypes.{same-type, same-data, masks-length}

@@ -27,7 +27,8 @@ use Rattle.tlp_write.specs.Given.{commonBad, ownBad, reservedGiven, routeBad}
 use Rattle.tlp_write.specs.Write.{writeRows, writeAnswer, writePacket}
 use Rattle.tlp_write.specs.declared.WriteAnswer.the-variants.{Written}
 use Rattle.tlp_trip.specs.RoundTrips.{WriteThenRead}
-use Rattle.tlp_trip.proofs.Tables.{NoneHold, none-first, first-none}
+use Rattle.tlp.specs.Rows.{NoneHold}
+use Rattle.tlp.proofs.RowLaws.{none-first, first-none}
 use Rattle.tlp_trip.proofs.Fits.{common-fits}
 use Rattle.tlp_trip.proofs.Front.{FrontBack, front-back}
 use Rattle.tlp_trip.proofs.EachKind.{KindBack, own-back}

@@ -32,24 +32,17 @@ use Rattle.tlp_write.proofs.PutLaws.{put-nothing}
 
 -- ---- addresses
 
-pub memory-narrow : (a : ℕ) (w : List ℕ) → a < 2 ^ 32 → w ≡ bytes 4 a
-    → (getD w 0 0 ∷ getD w 1 0 ∷ getD w 2 0 ∷ getD w 3 0 ∷ 0 ∷ 0 ∷ 0 ∷ 0 ∷ []) ≡ padded 8 (memoryAddress a)
-unfolding memoryAddress
-memory-narrow a w h e = rw (e, lt-ltb a (2 ^ 32) h)
+pub low-law : (a : ℕ) (w : List ℕ) → w ≡ bytes 8 a → (getD w 4 0 ∷ getD w 5 0 ∷ getD w 6 0 ∷ getD w 7 0 ∷ 0 ∷ 0 ∷ 0 ∷ 0 ∷ []) ≡ padded 8 (bytes 4 a)
+low-law a w e = rw e
 
-pub memory-wide : (a : ℕ) (w : List ℕ) → 2 ^ 32 ≤ a → w ≡ bytes 8 a → w ≡ padded 8 (memoryAddress a)
-unfolding memoryAddress
-memory-wide a w h e = rw (e, le-ltb a (2 ^ 32) h)
+module _ (a : ℕ) (w : List ℕ) where
+  pub memory-narrow : a < 2 ^ 32 → w ≡ padded 8 (bytes 4 a) → w ≡ padded 8 (memoryAddress a)
+  unfolding memoryAddress
+  memory-narrow h e = rw (lt-ltb a (2 ^ 32) h) e
 
--- I/O addresses below 4 GiB and the low 32 bits of others
-pub io-law : (a : ℕ) (w : List ℕ) → w ≡ bytes 4 (a % 4294967296)
-    → (getD w 0 0 ∷ getD w 1 0 ∷ getD w 2 0 ∷ getD w 3 0 ∷ 0 ∷ 0 ∷ 0 ∷ 0 ∷ []) ≡ padded 8 (bytes 4 a)
-io-law a w e =
-    let d : a % 4294967296 / 16777216 % 256 ≡ a / 16777216 % 256 = omega arith in
-    let c : a % 4294967296 / 65536 % 256 ≡ a / 65536 % 256 = omega arith in
-    let b : a % 4294967296 / 256 % 256 ≡ a / 256 % 256 = omega arith in
-    let z : a % 4294967296 / 1 % 256 ≡ a / 1 % 256 = omega arith in
-    rw (e, d, c, b, z)
+  pub memory-wide : 2 ^ 32 ≤ a → w ≡ bytes 8 a → w ≡ padded 8 (memoryAddress a)
+  unfolding memoryAddress
+  memory-wide h e = rw (le-ltb a (2 ^ 32) h) e
 
 -- ---- arrays by their elements
 
@@ -116,6 +109,25 @@ pub header-array-law : (p : Packet) (f w : List ℕ) → f ≡ frontBytes p → 
     → elems 4 0 f ++ elems 12 0 w ≡ frontBytes p ++ padded 12 (ownBytes (p .route) (p .kind))
 header-array-law p f w e h k l =
     ap (λ (x : List ℕ). x ++ elems 12 0 w) (elems-all 4 f k) ∙ ap (λ (x : List ℕ). f ++ x) (elems-all 12 w l) ∙ rw (e, h)
+
+-- ---- byte 0
+
+pub first-le : (t : PacketType) → firstByte t ≤ 112
+first-le MRd32 = lit≤ tt
+first-le MRd64 = lit≤ tt
+first-le MWr32 = lit≤ tt
+first-le MWr64 = lit≤ tt
+first-le IORd = lit≤ tt
+first-le IOWr = lit≤ tt
+first-le CfgRd0 = lit≤ tt
+first-le CfgWr0 = lit≤ tt
+first-le CfgRd1 = lit≤ tt
+first-le CfgWr1 = lit≤ tt
+first-le Msg = lit≤ tt
+first-le MsgD = lit≤ tt
+first-le Cpl = lit≤ tt
+first-le CplD = lit≤ tt
+first-le Unlisted = lit≤ tt
 
 -- ---- by cases
 
@@ -203,20 +215,3 @@ module _ (p : Packet) (at : ℕ) (out : List ℕ) where
   pub digest-none : p .«has_digest» ≡ false → out ≡ put at (digestOf p) out
   unfolding digestOf
   digest-none e = rw e (put-nothing at out)
-
-pub first-le : (t : PacketType) → firstByte t ≤ 112
-first-le MRd32 = lit≤ tt
-first-le MRd64 = lit≤ tt
-first-le MWr32 = lit≤ tt
-first-le MWr64 = lit≤ tt
-first-le IORd = lit≤ tt
-first-le IOWr = lit≤ tt
-first-le CfgRd0 = lit≤ tt
-first-le CfgWr0 = lit≤ tt
-first-le CfgRd1 = lit≤ tt
-first-le CfgWr1 = lit≤ tt
-first-le Msg = lit≤ tt
-first-le MsgD = lit≤ tt
-first-le Cpl = lit≤ tt
-first-le CplD = lit≤ tt
-first-le Unlisted = lit≤ tt

@@ -4,14 +4,14 @@ use mathlib.Core.Path.{_≡_, refl, sym, ap, _∙_}
 use mathlib.Core.Bool.{Bool, true, false, not}
 use mathlib.Core.List.{List, [], _∷_, _++_, append-assoc}
 use native.Mathlib.Omega.{arith}
-use lib.Dec.{eqb, ltb, lit≤}
+use lib.Dec.{eqb, ltb}
 use lib.ListN.{length, length-append}
 use borrow.Author.Tests.{eqb-true, ltb-false, not-false}
 use Rattle.bits.specs.Choice.{pick}
 use Rattle.bits.specs.Word.{bytes}
 use Rattle.byte_enables.specs.declared.Access.{Access}
 use Rattle.tlp.specs.Rows.{Row, row, first}
-use Rattle.tlp.proofs.RowLaws.{AllAbove, none-of}
+use Rattle.tlp.proofs.RowLaws.{none-of, first-none}
 use Rattle.tlp.specs.PacketTypes.{headerDw}
 use Rattle.tlp.specs.Packets.{typeOf, accessOf}
 use Rattle.tlp.specs.Sizes.{dataBytes, digestBytes}
@@ -35,18 +35,12 @@ size-law p t a h d g e f k l m = rw (← e, ← f, ← k, ← l, ← m)
 
 -- several rows by one call, none of which holds
 
-given-above : (p : Packet) → AllAbove (givenRows p)
-given-above p = (lit≤ tt, (lit≤ tt, (lit≤ tt, (lit≤ tt, tt))))
-
-content-above : (mps : ℕ) (t : PacketType) (p : Packet) → AllAbove (contentRows mps t p 0)
-content-above mps t p = (lit≤ tt, (lit≤ tt, (lit≤ tt, (lit≤ tt, tt))))
-
 module _ (r m : ℕ) (ys : List Row) (z : r ≡ 0) (q : m ≡ first ys) where
   pub given-none : (p : Packet) → r ≡ first (givenRows p) → m ≡ first (givenRows p ++ ys)
-  given-none p e = none-of (givenRows p) ys r m (given-above p) e z q
+  given-none p e = none-of (givenRows p) ys r m refl e z q
 
   pub content-none : (mps : ℕ) (t : PacketType) (p : Packet) → r ≡ first (contentRows mps t p 0) → m ≡ first (contentRows mps t p 0 ++ ys)
-  content-none mps t p e = none-of (contentRows mps t p 0) ys r m (content-above mps t p) e z q
+  content-none mps t p e = none-of (contentRows mps t p 0) ys r m refl e z q
 
 -- rows, of what the calls before them gave
 pub later-law : (c : Settings) (p : Packet) (n room m : ℕ) (t : PacketType) (a : Access) → t ≡ typeOf p → a ≡ accessOf p
@@ -58,8 +52,6 @@ pub later-law : (c : Settings) (p : Packet) (n room m : ℕ) (t : PacketType) (a
     → m ≡ first (laterRows c p n room)
 later-law c p n room m t a e h q = rw (e, h) at q
 
-pub ruleset later-laws = (later-law, content-none)
-
 -- ---- the packet over the output
 
 module _ (p : Packet) (payload : List ℕ) where
@@ -67,44 +59,31 @@ module _ (p : Packet) (payload : List ℕ) where
   unfolding bytesOf
   bytes-length = simp length-append (omega arith)
 
+  pub front-end : (n r : ℕ) → n ≡ length (headerOf p) → r ≡ n + length payload → r ≡ length (headerOf p) + length payload
+  front-end n r e f = rw e at f
+
   module _ (out : List ℕ) where
+    pub front-room : length (bytesOf p payload) ≤ length out → length (headerOf p) + length payload ≤ length out
+    front-room h = omega (arith, bytes-length)
+
     pub front-put : (o1 o2 : List ℕ) (n : ℕ) → n ≡ length (headerOf p) → o1 ≡ put 0 (headerOf p) out → o2 ≡ put n payload o1
         → o2 ≡ put 0 (headerOf p ++ payload) out
     front-put o1 o2 n e f g = rw (f, e) at g ∙ put-next (headerOf p) payload out
 
-    pub front-end : (n r : ℕ) → n ≡ length (headerOf p) → r ≡ n + length payload → r ≡ length (headerOf p) + length payload
-    front-end n r e f = rw e at f
-
-    pub front-room : length (bytesOf p payload) ≤ length out → length (headerOf p) + length payload ≤ length out
-    front-room h = omega (arith, bytes-length)
-
     module _ (o1 : List ℕ) (n : ℕ) (e : n ≡ length (headerOf p) + length payload) (f : o1 ≡ put 0 (headerOf p ++ payload) out) where
-      pub digest-room : length (bytesOf p payload) ≤ length out → n + length (digestOf p) ≤ length o1
-      digest-room h =
-          omega (arith, bytes-length, length-append (headerOf p) payload, ap length f ∙ length-put 0 (headerOf p ++ payload) out (omega (arith, bytes-length, length-append (headerOf p) payload)))
+      pub packet-room : length (bytesOf p payload) ≤ length out → n + length (digestOf p) ≤ length o1
+      packet-room h =
+          let l = length-append (headerOf p) payload in
+          let k : 0 + length (headerOf p ++ payload) ≤ length out = omega (arith, bytes-length) in
+          omega (arith, bytes-length, ap length f ∙ length-put 0 (headerOf p ++ payload) out k)
 
       pub packet-put : (o2 : List ℕ) → o2 ≡ put n (digestOf p) o1 → o2 ≡ overFront (bytesOf p payload) out
       unfolding bytesOf
       packet-put o2 k =
-          rw (f, e, ← length-append) at k ∙ put-next (headerOf p ++ payload) (digestOf p) out ∙ put-front ((headerOf p ++ payload) ++ digestOf p) out ∙ rw (append-assoc (headerOf p) payload (digestOf p))
+          let xs = (headerOf p ++ payload) ++ digestOf p in
+          rw (f, e, ← length-append) at k ∙ put-next (headerOf p ++ payload) (digestOf p) out ∙ put-front xs out ∙ rw (append-assoc (headerOf p) payload (digestOf p))
 
 -- ---- answers
-
--- where no row holds, the first does not, and none of those after some rows
-
-first-not : (ys : List Row) (n : ℕ) (b : Bool) → 0 < n → first (row n b ∷ ys) ≡ 0 → b ≡ false
-unfolding first
-first-not ys n true h e = absurd (omega arith)
-first-not ys n false h e = refl
-
-rest-none : (xs ys : List Row) → AllAbove xs → first (xs ++ ys) ≡ 0 → first ys ≡ 0
-unfolding first
-rest-none [] ys a e = e
-rest-none (x ∷ xs) ys a e = rest-none xs ys (a .1) (by (x .holds) e)
-  where
-    by : (t : Bool) → pick t (x .number) (first (xs ++ ys)) ≡ 0 → first (xs ++ ys) ≡ 0
-    by true q = absurd (omega (arith, a .0))
-    by false q = q
 
 digest-length : (p : Packet) → length (digestOf p) ≡ digestBytes (p .«has_digest»)
 unfolding digestOf digestBytes
@@ -142,9 +121,5 @@ module _ (c : Settings) (p : Packet) (payload out : List ℕ) (n : ℕ) (e : n �
   pub written-room : n ≡ 0 → length (bytesOf p payload) ≤ length out
   written-room z =
       let size = dataBytes (typeOf p) (accessOf p .length) in
-      let bad = not (eqb (length payload) size) in
-      let later = rest-none (row 11 (not (settingsListed c)) ∷ givenRows p) (laterRows c p (length payload) (length out)) (lit≤ tt, given-above p) (sym e ∙ z) in
-      let d = first-not _ 3 bad (lit≤ tt) later in
-      let last = rest-none (row 3 bad ∷ contentRows (c .mps) (typeOf p) p 0) (row 12 (ltb (length out) (sizeOf p)) ∷ []) (lit≤ tt, content-above (c .mps) (typeOf p) p) later in
-      let r = first-not [] 12 (ltb (length out) (sizeOf p)) (lit≤ tt) last in
+      let (_, (_, (_, (_, (_, (d, (_, (_, (_, (_, (r, _))))))))))) = first-none (writeRows c p (length payload) (length out)) refl (sym e ∙ z) in
       omega (arith, size-of-bytes p payload (eqb-true (length payload) size (not-false (eqb (length payload) size) d)), ltb-false (length out) (sizeOf p) r)

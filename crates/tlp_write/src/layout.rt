@@ -66,22 +66,21 @@ fn id_of(r: Route) -> u16
     }
 }
 
+// The low four bytes of an address.
+fn low_address(a: u64) -> [u8; 8]
+    ensures { λ r. ⌜ r ≡ padded 8 (bytes 4 a) ⌝ }
+{
+    let w = bytes64(a);
+    [w[4], w[5], w[6], w[7], 0, 0, 0, 0]
+}
+
 fn memory_address(a: u64) -> [u8; 8]
     ensures { λ r. ⌜ r ≡ padded 8 (memoryAddress a) ⌝ }
 {
     if a < 4294967296 {
-        let w = bytes32(a as u32);
-        return [w[0], w[1], w[2], w[3], 0, 0, 0, 0];
+        return low_address(a);
     }
     bytes64(a)
-}
-
-// An I/O address is below 4 GiB.
-fn io_address(a: u64) -> [u8; 8]
-    ensures { λ r. ⌜ r ≡ padded 8 (bytes 4 a) ⌝ }
-{
-    let w = bytes32((a % 4294967296) as u32);
-    [w[0], w[1], w[2], w[3], 0, 0, 0, 0]
 }
 
 fn request_bytes(q: Request, tail: [u8; 8]) -> [u8; 12]
@@ -114,7 +113,7 @@ fn memory_bytes(r: Route, q: Request) -> [u8; 12]
 fn io_bytes(r: Route, q: Request) -> [u8; 12]
     ensures { λ b. ⌜ b ≡ padded 12 (requestBytes q ++ bytes 4 (addressOf r)) ⌝ }
 {
-    request_bytes(q, io_address(address_of(r)))
+    request_bytes(q, low_address(address_of(r)))
 }
 
 fn config_bytes(r: Route, q: ConfigRequest) -> [u8; 12]

@@ -9,14 +9,14 @@ settings-listed-requires c κs = search needs
 returns : tie.Need-returns
 returns c = (search unlisted-number, (search unlisted-out, search unlisted-size))
 
-packet-in-requires : tie.Need-packet-in-requires
-packet-in-requires c κs = search needs
+packet-of-requires : tie.Need-packet-of-requires
+packet-of-requires c κs = search needs
 
-is-record-of-requires : tie.Need-is-record-of-requires
-is-record-of-requires c κs = search needs
+enum-told : tie.Need-enum-told
+enum-told c = search needs
 
-returns-2 : tie.Need-returns-2
-returns-2 c = (search no-record-number, (search no-record-out, search no-record-size))
+enum-known-described : tie.Need-enum-known-described
+enum-known-described c = search needs
 
 write-requires : tie.Need-write-requires
 write-requires c κs = search needs
@@ -26,6 +26,9 @@ enum-known-answer c = search needs
 
 enum-known-answer-2 : tie.Need-enum-known-answer-2
 enum-known-answer-2 c = search needs
+
+returns-2 : tie.Need-returns-2
+returns-2 c = (search no-record-number, (search no-record-out, search no-record-size))
 
 same-length : tie.Need-same-length
 same-length c = search needs
@@ -45,12 +48,13 @@ tollpebble-write-spec =
     (tie.spec
     settings-listed-requires
     returns
-    packet-in-requires
-    is-record-of-requires
-    returns-2
+    packet-of-requires
+    enum-told
+    enum-known-described
     write-requires
     enum-known-answer
     enum-known-answer-2
+    returns-2
     same-length
     returns-3
     same-length-2

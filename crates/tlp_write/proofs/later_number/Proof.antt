@@ -1,5 +1,5 @@
-use Rattle.tlp_write.proofs.WriteLaws.{later-laws}
-use Rattle.tlp.proofs.RowLaws.{rows}
+use Rattle.tlp_write.proofs.WriteLaws.{later-law, content-none}
+use Rattle.tlp.proofs.RowLaws.{here-ne-call, next-ne-call, some-of, here-lt-call, next-lt-call, none}
 use borrow.Author.Needs.{needs}
 use Rattle.tlp_write.proofs.later_number.Statement.{statement}
 use Rattle.tlp_write.proofs.later_number.Tie as tie
@@ -14,22 +14,22 @@ data-bytes-requires : tie.Need-data-bytes-requires
 data-bytes-requires c κs = search needs
 
 returns : tie.Need-returns
-returns c = search (later-laws, rows) depth 12 fits 4000
+returns c = search (later-law, here-ne-call)
 
 content-number-requires : tie.Need-content-number-requires
 content-number-requires c κs = search needs
 
 returns-2 : tie.Need-returns-2
-returns-2 c = search (later-laws, rows) depth 12 fits 4000
+returns-2 c = search (later-law, next-ne-call, some-of)
 
 size-of-requires : tie.Need-size-of-requires
 size-of-requires c κs = search needs
 
 returns-3 : tie.Need-returns-3
-returns-3 c = search (later-laws, rows) depth 12 fits 4000
+returns-3 c = search (later-law, next-ne-call, content-none, here-lt-call)
 
 returns-4 : tie.Need-returns-4
-returns-4 c = search (later-laws, rows) depth 12 fits 4000
+returns-4 c = search (later-law, next-ne-call, content-none, next-lt-call, none)
 
 pub later-number-spec : {M : Type 1} → statement M
 later-number-spec =

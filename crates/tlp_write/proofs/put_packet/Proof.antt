@@ -1,4 +1,4 @@
-use Rattle.tlp_write.proofs.WriteLaws.{front-room, digest-room, packet-put}
+use Rattle.tlp_write.proofs.WriteLaws.{front-room, packet-room, packet-put}
 use borrow.Author.Needs.{needs}
 use Rattle.tlp_write.proofs.put_packet.Statement.{statement}
 use Rattle.tlp_write.proofs.put_packet.Tie as tie
@@ -7,7 +7,7 @@ put-front-requires : tie.Need-put-front-requires
 put-front-requires c κs = search front-room
 
 put-digest-requires : tie.Need-put-digest-requires
-put-digest-requires c κs = search digest-room
+put-digest-requires c κs = search packet-room
 
 same-length : tie.Need-same-length
 same-length c = search needs
