@@ -10,4 +10,3 @@ returns-2 c = search outside-laws
 
 pub outside-of-spec : {M : Type 1} → statement M
 outside-of-spec = tie.close (tie.spec returns returns-2)
-
