@@ -11,3 +11,5 @@ pub mod ReadTypes
 pub mod ReadHeader
 pub mod ReadGiven
 pub mod ReadWrite
+pub mod ReservedFields
+pub mod ReservedIgnored

@@ -1,5 +1,5 @@
 -- Demand 2: "Writing then reading gives the same packet; reading then writing gives the same bytes with reserved bits cleared."
--- Proved in proofs/WriteRead.antt and proofs/ReadWrite.antt.
+-- Document 01: "Reserved bits are ignored on reading." Proved in proofs/WriteRead.antt, proofs/ReadWrite.antt and proofs/ReservedIgnored.antt.
 use Prim.Native.Nat.{ℕ, _≤_, _<_}
 use mathlib.Core.Path.{_≡_}
 use mathlib.Core.List.{List}
@@ -36,3 +36,7 @@ ReadThenWrite =
     → length s ≤ room
     → (writePacket c p (length (payloadOf p s)) room ≡ Written (length s))
     × (bytesOf p (payloadOf p s) ≡ clearReserved s)
+
+-- Bytes with their reserved bits cleared read as the bytes themselves do, accepted or refused.
+abbrev pub ReservedIgnored : Type 0
+ReservedIgnored = (c : Settings) (s : List ℕ) → Bytes s → readPacket c (clearReserved s) ≡ readPacket c s

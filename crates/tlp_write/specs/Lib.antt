@@ -1,5 +1,4 @@
 pub mod Given
-pub mod Later
 pub mod Layout
 pub mod Padded
 pub mod Put

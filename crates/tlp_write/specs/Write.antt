@@ -25,16 +25,18 @@ givenRows p =
     ∷ row 6 (routeBad (p .route) (p .kind))
     ∷ []
 
--- "It refuses 11 first; then 6 ..; 3 if the payload lent is not 4 x length bytes, or not empty for a kind without data; 5 to 9 as above; last 12 if
--- the output is shorter than the packet." n is the payload's size, room the output's. AT is written 0, and no route has routing 110 or 111 (row 9).
-abbrev pub writeRows : Settings → Packet → ℕ → ℕ → List Row
-writeRows c p n room =
-    row 11 (not (settingsListed c))
-    ∷ (givenRows p
-    ++ (row 3 (not (eqb n (dataBytes (typeOf p) (accessOf p .length))))
+-- the rows after it: "3 if the payload lent is not 4 x length bytes, or not empty for a kind without data; 5 to 9 as above; last 12 if the output is
+-- shorter than the packet." n is the payload's size, room the output's. AT is written 0, and no route has routing 110 or 111 (row 9).
+abbrev pub laterRows : Settings → Packet → ℕ → ℕ → List Row
+laterRows c p n room =
+    row 3 (not (eqb n (dataBytes (typeOf p) (accessOf p .length))))
     ∷ (contentRows (c .mps) (typeOf p) p 0
     ++ (row 12 (ltb room (sizeOf p))
-    ∷ []))))
+    ∷ []))
+
+-- "It refuses 11 first; then 6 .."
+abbrev pub writeRows : Settings → Packet → ℕ → ℕ → List Row
+writeRows c p n room = row 11 (not (settingsListed c)) ∷ (givenRows p ++ laterRows c p n room)
 
 abbrev pub writeAnswer : ℕ → ℕ → WriteAnswer
 writeAnswer zero size = Written size
