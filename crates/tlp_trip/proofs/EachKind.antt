@@ -25,7 +25,7 @@ use Rattle.tlp.specs.declared.packet_type.PacketType.the-variants.{MRd32, MRd64
 use Rattle.tlp_read.specs.Fields.{requestAt, routeAt, kindAt}
 use Rattle.tlp_read.specs.Read.{routingBad, formBad}
 use Rattle.tlp_write.specs.Layout.{routing, routingIn, idOf, requestBytes, memoryAddress, ownBytes}
-use Rattle.tlp_write.specs.Given.{lengthBad, requestBad, configBad, ownBad, routeBad}
+use Rattle.tlp_given.specs.Given.{lengthBad, requestBad, configBad, ownBad, routeBad}
 use Rattle.tlp_trip.proofs.Tests.{left-no, right-no}
 use Rattle.tlp_trip.proofs.Fits.{request-fits, config-fits}
 use Rattle.tlp_trip.proofs.Layouts.{top-word, LengthBack, request-back, config-back, message-back, completion-back}

@@ -10,7 +10,7 @@ use Rattle.tlp.specs.declared.packet.MessageRequest.{MessageRequest}
 use Rattle.tlp.specs.declared.packet.CompletionHeader.{CompletionHeader}
 use Rattle.tlp.specs.declared.packet.Packet.{Packet}
 use Rattle.tlp_trip.proofs.Tests.{left-no, right-no}
-use Rattle.tlp_write.specs.Given.{over, outside, lengthBad, commonBad, requestBad, configBad, messageBad, completionBad}
+use Rattle.tlp_given.specs.Given.{over, outside, lengthBad, commonBad, requestBad, configBad, messageBad, completionBad}
 
 pub fits : (w x : ℕ) → over w x ≡ false → x < 2 ^ w
 fits w x e = leb-false (2 ^ w) x e

@@ -17,7 +17,7 @@ use Rattle.tlp.specs.Sizes.{orMost, lengthAt, digestAt}
 use Rattle.tlp.specs.declared.packet.Packet.{Packet}
 use Rattle.tlp_read.specs.Fields.{trafficClassAt, attributesAt, hintAt, addressTypeAt, poisonedAt}
 use Rattle.tlp_write.specs.Layout.{flag, frontBytes}
-use Rattle.tlp_write.specs.Given.{lengthBad, reservedGiven}
+use Rattle.tlp_given.specs.Given.{lengthBad, reservedGiven}
 use Rattle.tlp_trip.proofs.Fits.{CommonFits, inside}
 
 pub flag-lt : (b : Bool) → flag b < 2

@@ -15,7 +15,7 @@ use Rattle.bits.specs.Choice.{pick}
 use Rattle.bits.specs.Word.{byte, word, bytes}
 use Rattle.bits.proofs.WordLaws.{word-split, word-lt, word-bytes, length-bytes, bytes-small, bytes-word, bytes-word-at}
 use Rattle.tlp.specs.Sizes.{orMost}
-use Rattle.tlp_write.specs.Given.{outside}
+use Rattle.tlp_given.specs.Given.{outside}
 use Rattle.tlp_trip.specs.RoundTrips.{Bytes}
 use Rattle.tlp_trip.proofs.ReadMasks.{under, whole-byte, address-byte}
 

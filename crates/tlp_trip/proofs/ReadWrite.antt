@@ -25,7 +25,8 @@ use Rattle.tlp.specs.declared.packet_type.Family.{Family}
 use Rattle.tlp_read.specs.Fields.{packetAt, digestWord}
 use Rattle.tlp_read.specs.Read.{payloadOf}
 use Rattle.tlp_write.specs.Layout.{digestOf, bytesOf, sizeOf}
-use Rattle.tlp_write.specs.Write.{givenRows, writeRows, writePacket}
+use Rattle.tlp_write.specs.Write.{writeRows, writePacket}
+use Rattle.tlp_given.specs.Given.{givenRows}
 use Rattle.tlp_write.specs.declared.WriteAnswer.the-variants.{Written}
 use Rattle.tlp_trip.specs.RoundTrips.{Bytes, ReadThenWrite}
 use Rattle.tlp.specs.Rows.{NoneHold}

@@ -23,7 +23,7 @@ use Rattle.tlp_read.specs.Fields.{addressTypeAt, digestWord, packetAt}
 use Rattle.tlp_read.specs.Read.{hintsBad, readRows, readPacket, payloadOf}
 use Rattle.tlp_read.specs.declared.ReadAnswer.the-variants.{Accepted}
 use Rattle.tlp_write.specs.Layout.{frontBytes, ownBytes, headerOf, digestOf, bytesOf, sizeOf}
-use Rattle.tlp_write.specs.Given.{commonBad, ownBad, reservedGiven, routeBad}
+use Rattle.tlp_given.specs.Given.{commonBad, ownBad, reservedGiven, routeBad}
 use Rattle.tlp_write.specs.Write.{writeRows, writeAnswer, writePacket}
 use Rattle.tlp_write.specs.declared.WriteAnswer.the-variants.{Written}
 use Rattle.tlp_trip.specs.RoundTrips.{WriteThenRead}

@@ -1,4 +1,3 @@
-pub mod GivenLaws
 pub mod LayoutLaws
 pub mod PutLaws
 pub mod WriteLaws

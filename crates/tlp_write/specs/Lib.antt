@@ -1,4 +1,3 @@
-pub mod Given
 pub mod Layout
 pub mod Padded
 pub mod Put

@@ -11,21 +11,12 @@ use Rattle.tlp.specs.Sizes.{dataBytes}
 use Rattle.tlp.specs.Contents.{contentRows}
 use Rattle.tlp.specs.declared.settings.Settings.{Settings}
 use Rattle.tlp.specs.declared.packet.Packet.{Packet}
-use Rattle.tlp_write.specs.Given.{commonBad, ownBad, reservedGiven, routeBad}
+use Rattle.tlp_given.specs.Given.{givenRows}
 use Rattle.tlp_write.specs.Layout.{sizeOf, bytesOf}
 use Rattle.tlp_write.specs.declared.WriteAnswer.{WriteAnswer}
 use Rattle.tlp_write.specs.declared.WriteAnswer.the-variants.{Written, Refused}
 
--- the first place for 6, by its causes
-abbrev pub givenRows : Packet → List Row
-givenRows p =
-    row 6 (commonBad p)
-    ∷ row 6 (ownBad (p .kind))
-    ∷ row 6 (reservedGiven p)
-    ∷ row 6 (routeBad (p .route) (p .kind))
-    ∷ []
-
--- the rows after it: "3 if the payload lent is not 4 x length bytes, or not empty for a kind without data; 5 to 9 as above; last 12 if the output is
+-- the rows after the first place for 6: "3 if the payload lent is not 4 x length bytes, or not empty for a kind without data; 5 to 9 as above; last 12 if the output is
 -- shorter than the packet." n is the payload's size, room the output's. AT is written 0, and no route has routing 110 or 111 (row 9).
 abbrev pub laterRows : Settings → Packet → ℕ → ℕ → List Row
 laterRows c p n room =

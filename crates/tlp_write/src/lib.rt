@@ -1,5 +1,4 @@
 // Writing packets.
-mod given;
 mod layout;
 mod put;
 
@@ -13,6 +12,7 @@ use tlp::settings::Settings;
 use tlp::settings::settings_listed;
 use tlp::size::data_bytes;
 use tlp::size::digest_bytes;
+use tlp_given::given_number;
 ghost use mathlib.Core.Path.{_≡_};
 ghost use mathlib.Core.List.{_++_};
 ghost use Prim.Native.Nat.{_+_, _≤_};
@@ -62,7 +62,7 @@ fn write_number(settings: Settings, p: Packet, n: usize, room: usize) -> u32
     if !settings_listed(settings) {
         return 11;
     }
-    let given = given::given_number(p);
+    let given = given_number(p);
     if given != 0 {
         return given;
     }
