@@ -1,13 +1,14 @@
 -- One law for each return of the functions over records, in the words of the calls before it.
-use Prim.Native.Nat.{ℕ, zero, suc, _+_}
+use Prim.Native.Nat.{ℕ, _-_, _≤_}
 use mathlib.Core.Path.{_≡_, refl, sym, ap, _∙_}
 use mathlib.Core.Bool.{Bool, true, false, _&&_, and-eq-true-iff, true≢false}
-use mathlib.Core.List.{List, [], _∷_, _++_, append-nil}
+use mathlib.Core.List.{List, [], _∷_, _++_, append-nil, append-assoc}
 use lib.Dec.{eqb}
 use native.Mathlib.Omega.{arith}
-use native.Mathlib.Numerals.{add-one}
-use lib.ListN.{length, getD, drop, drop-of-length-le}
-use lib.Seq.{drop-cons}
+use lib.ListN.{length, getD, take, drop, length-append, drop-of-length-le}
+use borrow.Rule.Slice.PartMut.{putMid}
+use Rattle.tlp_write.specs.Put.{put}
+use Rattle.tlp_write.proofs.PutLaws.{copied, put-front, put-next}
 use borrow.Author.Tests.{eq-eqb, ne-eqb, eqb-true}
 use Rattle.bits.specs.Word.{byte, word, bytes}
 use Rattle.tlp.specs.declared.packet.Route.{Route}
@@ -38,23 +39,30 @@ pub count-law : (f : OwnFields) (x y : List ℕ) → x ≡ bytes 4 (f .«byte_co
     → (getD x 0 0 ∷ getD x 1 0 ∷ getD x 2 0 ∷ getD x 3 0 ∷ getD y 0 0 ∷ getD y 1 0 ∷ f .first ∷ f .last ∷ []) ≡ countPart f
 count-law f x y e h = rw (e, h)
 
--- n elements of a list from place i on, one by one
-abbrev elements : ℕ → List ℕ → ℕ → List ℕ
-elements zero l i = []
-elements (suc n) l i = getD l i 0 ∷ elements n l (i + 1)
+-- eight bytes laid over a record
+pub lay-law : (at : ℕ) (part r last : List ℕ) → length r ≡ 48 → last ≡ take (length part) part ++ drop (length part) (take (48 - at) (drop at r))
+    → putMid at (48 - at) r last ≡ put at part r
+lay-law at part r last l e = rw (← l) (copied at part r last (rw l e))
 
-elements-all : (n : ℕ) (l : List ℕ) (i : ℕ) → i + n ≡ length l → elements n l i ≡ drop i l
-elements-all zero l i e = sym (drop-of-length-le l {i = i} (omega arith))
-elements-all (suc n) l i e = rw (drop-cons l i 0 (omega arith), ← add-one i) (ap (λ (t : List ℕ). getD l i 0 ∷ t) (elements-all n l (i + 1) (omega arith)))
+lay-next : (n : ℕ) (x y out r s : List ℕ) → length x ≡ n → r ≡ put 0 x out → s ≡ put n y r → s ≡ put 0 (x ++ y) out
+lay-next n x y out r s l e q = q ∙ rw (e, ← l) (put-next x y out)
 
-eight : (l rest : List ℕ) → length l ≡ 8 → elements 8 l 0 ++ rest ≡ l ++ rest
-eight l rest e = ap (λ (x : List ℕ). x ++ rest) (elements-all 8 l 0 (omega arith))
-
-pub join-law : (a b c d e f : List ℕ) → length a ≡ 8 → length b ≡ 8 → length c ≡ 8 → length d ≡ 8 → length e ≡ 8 → length f ≡ 8
-    → (getD a 0 0 ∷ getD a 1 0 ∷ getD a 2 0 ∷ getD a 3 0 ∷ getD a 4 0 ∷ getD a 5 0 ∷ getD a 6 0 ∷ getD a 7 0 ∷ getD b 0 0 ∷ getD b 1 0 ∷ getD b 2 0 ∷ getD b 3 0 ∷ getD b 4 0 ∷ getD b 5 0 ∷ getD b 6 0 ∷ getD b 7 0 ∷ getD c 0 0 ∷ getD c 1 0 ∷ getD c 2 0 ∷ getD c 3 0 ∷ getD c 4 0 ∷ getD c 5 0 ∷ getD c 6 0 ∷ getD c 7 0 ∷ getD d 0 0 ∷ getD d 1 0 ∷ getD d 2 0 ∷ getD d 3 0 ∷ getD d 4 0 ∷ getD d 5 0 ∷ getD d 6 0 ∷ getD d 7 0 ∷ getD e 0 0 ∷ getD e 1 0 ∷ getD e 2 0 ∷ getD e 3 0 ∷ getD e 4 0 ∷ getD e 5 0 ∷ getD e 6 0 ∷ getD e 7 0 ∷ getD f 0 0 ∷ getD f 1 0 ∷ getD f 2 0 ∷ getD f 3 0 ∷ getD f 4 0 ∷ getD f 5 0 ∷ getD f 6 0 ∷ getD f 7 0 ∷ [])
-    ≡ a ++ (b ++ (c ++ (d ++ (e ++ f))))
-join-law a b c d e f p q r s t u =
-    eight a _ p ∙ ap (λ (l : List ℕ). a ++ l) (eight b _ q ∙ ap (λ (l : List ℕ). b ++ l) (eight c _ r ∙ ap (λ (l : List ℕ). c ++ l) (eight d _ s ∙ ap (λ (l : List ℕ). d ++ l) (eight e _ t ∙ ap (λ (l : List ℕ). e ++ l) (eight f [] u ∙ append-nil f)))))
+-- six of them in turn are the whole
+pub join-law : (a b c d e f z r s t u v w : List ℕ) → length a ≡ 8 → length b ≡ 8 → length c ≡ 8 → length d ≡ 8 → length e ≡ 8 → length f ≡ 8 → length z ≡ 48
+    → r ≡ put 0 a z → s ≡ put 8 b r → t ≡ put 16 c s → u ≡ put 24 d t → v ≡ put 32 e u → w ≡ put 40 f v → w ≡ a ++ (b ++ (c ++ (d ++ (e ++ f))))
+join-law a b c d e f z r s t u v w la lb lc ld le lf lz er es et eu ev ew =
+    let l2 : length (a ++ b) ≡ 16 = simp length-append (omega arith) in
+    let l3 : length ((a ++ b) ++ c) ≡ 24 = simp length-append (omega arith) in
+    let l4 : length (((a ++ b) ++ c) ++ d) ≡ 32 = simp length-append (omega arith) in
+    let l5 : length ((((a ++ b) ++ c) ++ d) ++ e) ≡ 40 = simp length-append (omega arith) in
+    let x2 = lay-next 8 a b z r s la er es in
+    let x3 = lay-next 16 (a ++ b) c z s t l2 x2 et in
+    let x4 = lay-next 24 ((a ++ b) ++ c) d z t u l3 x3 eu in
+    let x5 = lay-next 32 (((a ++ b) ++ c) ++ d) e z u v l4 x4 ev in
+    let x6 = lay-next 40 ((((a ++ b) ++ c) ++ d) ++ e) f z v w l5 x5 ew in
+    let whole = ((((a ++ b) ++ c) ++ d) ++ e) ++ f in
+    let n : length z ≤ length whole = simp length-append (omega arith) in
+    x6 ∙ put-front whole z ∙ rw (drop-of-length-le z {i = length whole} n) (simp (append-nil, append-assoc))
 
 pub record-law : (p : Packet) (f : OwnFields) (v : ℕ) (value body sizes front count end r : List ℕ)
     → f ≡ ownOf (p .kind) → v ≡ routeValue (p .route) → value ≡ bytes 8 v → body ≡ bytes 8 (f .body) → sizes ≡ sizesPart (p .digest) (f .length)

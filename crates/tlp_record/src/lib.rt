@@ -16,9 +16,10 @@ use tlp::packet::Request;
 use tlp::packet::Route;
 ghost use mathlib.Core.Path.{_≡_};
 ghost use mathlib.Core.List.{List, [], _∷_, _++_};
-ghost use Prim.Native.Nat.{ℕ};
+ghost use Prim.Native.Nat.{ℕ, _≤_};
 ghost use Rattle.bits.specs.Word.{bytes};
 ghost use Rattle.tlp_write.specs.Layout.{flag};
+ghost use Rattle.tlp_write.specs.Put.{put};
 ghost use Rattle.tlp_record.specs.Record.{requestFields, configFields, messageFields, completionFields, ownOf, routeCase, routeValue, frontPart, sizesPart, countPart, endPart, recordOf, requestIn, configIn, messageIn, completionIn, kindIn, routeIn, packetIn, describedBy};
 
 // A kind's number and its own fields, each 0 where the kind has none.
@@ -230,59 +231,24 @@ fn end_part(f: OwnFields) -> [u8; 8]
     ]
 }
 
+// Lays eight bytes over a record from index at on.
+fn lay(mut r: [u8; 48], at: usize, part: [u8; 8]) -> [u8; 48]
+    requires { ⌜ at ≤ 40 ⌝ }
+    ensures { λ s. ⌜ s ≡ put at part r ⌝ }
+{
+    bytes::copy(&part, &mut r[at..]);
+    r
+}
+
 fn join_parts(a: [u8; 8], b: [u8; 8], c: [u8; 8], d: [u8; 8], e: [u8; 8], f: [u8; 8]) -> [u8; 48]
     ensures { λ r. ⌜ r ≡ a ++ (b ++ (c ++ (d ++ (e ++ f)))) ⌝ }
 {
-    [
-        a[0],
-        a[1],
-        a[2],
-        a[3],
-        a[4],
-        a[5],
-        a[6],
-        a[7],
-        b[0],
-        b[1],
-        b[2],
-        b[3],
-        b[4],
-        b[5],
-        b[6],
-        b[7],
-        c[0],
-        c[1],
-        c[2],
-        c[3],
-        c[4],
-        c[5],
-        c[6],
-        c[7],
-        d[0],
-        d[1],
-        d[2],
-        d[3],
-        d[4],
-        d[5],
-        d[6],
-        d[7],
-        e[0],
-        e[1],
-        e[2],
-        e[3],
-        e[4],
-        e[5],
-        e[6],
-        e[7],
-        f[0],
-        f[1],
-        f[2],
-        f[3],
-        f[4],
-        f[5],
-        f[6],
-        f[7],
-    ]
+    let r = lay([0u8; 48], 0, a);
+    let s = lay(r, 8, b);
+    let t = lay(s, 16, c);
+    let u = lay(t, 24, d);
+    let v = lay(u, 32, e);
+    lay(v, 40, f)
 }
 
 // The record of a packet.
