@@ -1,0 +1,2 @@
+pub mod CuttingsProof
+pub mod PieceByPiece

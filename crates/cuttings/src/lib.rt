@@ -1,0 +1,1 @@
+// Lawful cuttings of a read: definitions and theorems, and no code.

@@ -1,0 +1,5 @@
+mod RequestLaws
+mod WindowLaws
+mod PieceLaws
+mod ContinuationLaws
+pub mod AsWriter

@@ -1,0 +1,41 @@
+use Rattle.read_rules.proofs.ContinuationLaws.{legal-laws}
+use borrow.Author.Needs.{needs}
+use Rattle.read_rules.proofs.continuation.is_legal.Statement.{statement}
+use Rattle.read_rules.proofs.continuation.is_legal.Tie as tie
+
+cut-allowed-requires : tie.Need-cut-allowed-requires
+cut-allowed-requires c κs = search needs
+
+returns : tie.Need-returns
+returns c = search legal-laws
+
+cast-if2 : tie.Need-cast-if2
+cast-if2 c = search needs
+
+byte-count-at-requires : tie.Need-byte-count-at-requires
+byte-count-at-requires c κs = search needs
+
+returns-2 : tie.Need-returns-2
+returns-2 c = search legal-laws
+
+cast-result : tie.Need-cast-result
+cast-result c = search needs
+
+lower-address-at-requires : tie.Need-lower-address-at-requires
+lower-address-at-requires c κs = search needs
+
+returns-3 : tie.Need-returns-3
+returns-3 c = search legal-laws
+
+pub is-legal-spec : {M : Type 1} → statement M
+is-legal-spec =
+    tie.close
+    (tie.spec
+    cut-allowed-requires
+    returns
+    cast-if2
+    byte-count-at-requires
+    returns-2
+    cast-result
+    lower-address-at-requires
+    returns-3)

@@ -1,0 +1,6 @@
+pub mod Requests
+pub mod Windows
+pub mod Validity
+pub mod Pieces
+pub mod Continuations
+pub mod AsWriter

@@ -1,0 +1,149 @@
+// Which completions continue a read.
+use crate::piece::Piece;
+use crate::validity::Read;
+use byte_enables::Access;
+use byte_enables::off_of;
+use byte_enables::total_of;
+use byte_enables::trail_of;
+use tlp::settings::Settings;
+ghost use mathlib.Core.Path.{_≡_};
+ghost use mathlib.Core.Bool.{_||_, _&&_};
+ghost use Prim.Native.Nat.{_+_, _*_, _%_, _<_, _-_};
+ghost use lib.Dec.{eqb, leb};
+ghost use Rattle.read_rules.specs.Continuations.{byteCountAt, lowerAddressAt, cutAllowed, legal, succeeds, statusBad, differs, reported};
+
+// What a table is made from; fixed for its life.
+pub struct Origin {
+    pub settings: Settings,
+    pub requester: u16,
+}
+
+// The doublewords of a request from doubleword p on.
+fn rest_of(a: Access, p: u32) -> u32
+    ensures { λ n. ⌜ n ≡ a .length - p ⌝ }
+{
+    if a.length < p {
+        return 0;
+    }
+    a.length - p
+}
+
+// The Byte Count that a piece at doubleword p must have.
+pub fn byte_count_at(a: Access, p: u32) -> u64
+    ensures { λ n. ⌜ n ≡ byteCountAt a p ⌝ }
+{
+    if p == 0 {
+        return total_of(a);
+    }
+    let all = 4 * rest_of(a, p) as u64;
+    let out = trail_of(a) as u64;
+    if all < out {
+        return 0;
+    }
+    all - out
+}
+
+// The Lower Address that a piece at doubleword p must have. An address may be the last of 64 bits, so it is reduced before it is added to.
+pub fn lower_address_at(a: Access, p: u32) -> u64
+    ensures { λ n. ⌜ n ≡ lowerAddressAt a p ⌝ }
+{
+    let low = a.address % 128;
+    if p == 0 {
+        return (low + off_of(a) as u64) % 128;
+    }
+    (low + 4 * p as u64) % 128
+}
+
+// Whether address + bytes is a multiple of the read completion boundary.
+fn on_boundary(rcb: u32, address: u64, bytes: u64) -> bool
+    ensures { λ r. ⌜ r ≡ eqb ((address + bytes) % rcb) 0 ⌝ }
+{
+    let m = rcb as u64;
+    if m == 0 {
+        if address == 0 {
+            return bytes == 0;
+        }
+        return false;
+    }
+    (address % m + bytes % m) % m == 0
+}
+
+// Whether a piece of n doublewords may stand at doubleword p.
+pub fn cut_allowed(rcb: u32, a: Access, p: u32, n: u32) -> bool
+    ensures { λ r. ⌜ r ≡ cutAllowed rcb a p n ⌝ }
+{
+    let rest = rest_of(a, p);
+    if n < 1 {
+        return false;
+    }
+    if rest < n {
+        return false;
+    }
+    if n == rest {
+        return true;
+    }
+    on_boundary(rcb, a.address, 4 * p as u64 + 4 * n as u64)
+}
+
+// Whether a completion legally continues a read.
+pub fn is_legal(o: Origin, r: Read, c: Piece) -> bool
+    ensures { λ b. ⌜ b ≡ legal o r c ⌝ }
+{
+    let s = o.settings;
+    let q = r.request;
+    let a = q.access;
+    let h = c.header;
+    if !cut_allowed(s.rcb, a, r.taken, c.length) {
+        return false;
+    }
+    if h.byte_count as u64 != byte_count_at(a, r.taken) {
+        return false;
+    }
+    h.lower_address as u64 == lower_address_at(a, r.taken)
+}
+
+// Whether the status is 000.
+pub fn has_success(c: Piece) -> bool
+    ensures { λ b. ⌜ b ≡ succeeds c ⌝ }
+{
+    let h = c.header;
+    h.status == 0b000
+}
+
+// What 32 is given for.
+pub fn status_bad(c: Piece) -> bool
+    ensures { λ b. ⌜ b ≡ statusBad c ⌝ }
+{
+    let h = c.header;
+    if h.byte_count_modified {
+        return true;
+    }
+    if h.status == 0b010 {
+        return true;
+    }
+    if h.status == 0b000 {
+        return !c.with_data;
+    }
+    c.with_data
+}
+
+// What 31 is given for.
+pub fn differs_from(r: Read, c: Piece) -> bool
+    ensures { λ b. ⌜ b ≡ differs r c ⌝ }
+{
+    let q = r.request;
+    if c.traffic_class != q.traffic_class {
+        return true;
+    }
+    c.attributes != q.attributes
+}
+
+// The status that Failed answers.
+pub fn reported_status(status: u8) -> u8
+    ensures { λ n. ⌜ n ≡ reported status ⌝ }
+{
+    if status == 0b100 {
+        return 0b100;
+    }
+    0b001
+}

@@ -1,0 +1,5 @@
+pub mod Tables
+pub mod Answers
+pub mod OpenCall
+pub mod TakeCall
+pub mod OtherCalls

@@ -1,0 +1,198 @@
+-- Tables that calls reach from a new one: what holds of each, and a tag's record after a call.
+use Prim.Native.Nat.{ℕ, suc, _≤_, _<_}
+use mathlib.Core.Path.{_≡_, refl, sym, ap, _∙_}
+use mathlib.Core.Logic.{_⊎_, inl, inr, _≢_}
+use mathlib.Core.Bool.{Bool, true, false, and-comm, and-eq-true-iff}
+use mathlib.Core.List.{List, [], _∷_, _++_}
+use native.Mathlib.Omega.{arith}
+use lib.Dec.{eqb, ltb}
+use lib.ListN.{length, getD}
+use borrow.Author.Tests.{eqb-true, eqb-false, ne-eqb, ltb-true, ltb-false, lt-ltb}
+use Rattle.bits.specs.Choice.{pick}
+use Rattle.scan.specs.Scans.{allOf}
+use Rattle.tlp.specs.Rows.{first}
+use Rattle.tlp.specs.Settings.{settingsListed}
+use Rattle.tlp.specs.declared.settings.Settings.{Settings}
+use Rattle.read_rules.specs.declared.validity.Read.{Read}
+use Rattle.read_rules.specs.declared.continuation.Origin.{Origin}
+use Rattle.read_rules.specs.Requests.{requestRows}
+use Rattle.read_rules.specs.Windows.{storeLimit, windowEnd, placeRows, sharesByte}
+use Rattle.read_rules.specs.Validity.{validRead}
+use Rattle.read_slots.specs.declared.State.{State}
+use Rattle.read_slots.specs.declared.State.the-variants.{Free, Open}
+use Rattle.read_slots.specs.Slots.{freeSlot, validState, validSlot, sharesIn}
+use Rattle.reads.specs.declared.table.Table.{Table}
+use Rattle.reads.specs.Tables.{capacity, tagLimit, newTable, stateAt, withState, validTable}
+use Rattle.reads_demands.specs.History.{Call, Event}
+use Rattle.reads_demands.specs.History.{Change, keeps, opens, adds, closes, eventTag, eventChange, change}
+use Rattle.reads_demands.specs.Demand3.{next, answered, run}
+use Rattle.reads_demands.proofs.Limits.{either, limitOf, slotState, state-below, state-over, slot-new, state-new, size-new, size-with, slot-with-free, state-with}
+use Rattle.reads_demands.proofs.Steps.{afterChange, moved, next-moved}
+use Rattle.reads_demands.proofs.Accepted.{FairAdd, Fair, fair, fair-at}
+
+-- whether two records' windows share a byte
+abbrev pub sharesStates : State → State → Bool
+sharesStates Free y = false
+sharesStates (Open r) y = sharesIn (r .request) y
+
+-- what holds of a table made from o with listed settings, whatever calls it has met
+pub record Sound (o : Origin) (t : Table) : Type 0 where
+  pub listed : settingsListed (o .settings) ≡ true
+  pub origin : t .origin ≡ o
+  pub size : length (t .slots) ≡ capacity
+  pub over : (u : ℕ) → tagLimit (o .settings) ≤ u → slotState t u ≡ Free
+  pub states : (u : ℕ) → validState (o .settings) (stateAt t u) ≡ true
+  pub disjoint : (u v : ℕ) → u ≢ v → sharesStates (stateAt t u) (stateAt t v) ≡ false
+
+pub sound-new : (o : Origin) → settingsListed (o .settings) ≡ true → Sound o (newTable o)
+sound-new o k =
+    record {
+      listed = k;
+      origin = unfold newTable in refl;
+      size = size-new o;
+      over = λ u h. slot-new o u;
+      states = λ u. rw (state-new o u);
+      disjoint = λ u v h. rw (state-new o u);
+    }
+
+-- ---- a tag's record after a call
+
+at-tag : (t : Table) (tag u : ℕ) (c : Change) (b : Bool) → eqb tag u ≡ b → pick b (afterChange c (stateAt t tag)) (stateAt t u) ≡ afterChange (pick b c keeps) (stateAt t u)
+at-tag t tag u c true e = rw (eqb-true tag u e)
+at-tag t tag u c false e = refl
+
+state-kept : (b : Bool) (x : State) → x ≡ afterChange (pick b keeps keeps) x
+state-kept true x = refl
+state-kept false x = refl
+
+state-moved : (t : Table) (tag : ℕ) (c : Change) → length (t .slots) ≡ capacity → Fair t tag c → (u : ℕ)
+    → stateAt (moved c t tag) u ≡ afterChange (pick (eqb tag u) c keeps) (stateAt t u)
+state-moved t tag keeps l f u = state-kept (eqb tag u) (stateAt t u)
+state-moved t tag (opens q) l f u = state-with t tag _ l (λ h. let k : tag < limitOf t = f .within in absurd (omega arith)) u ∙ at-tag t tag u (opens q) (eqb tag u) refl
+state-moved t tag (adds b) l f u = state-with t tag _ l (λ h. rw (state-over t tag h)) u ∙ at-tag t tag u (adds b) (eqb tag u) refl
+state-moved t tag closes l f u = state-with t tag Free l (λ h. refl) u ∙ at-tag t tag u closes (eqb tag u) refl
+
+state-change : (t : Table) → length (t .slots) ≡ capacity → (c : Call) (u : ℕ) → stateAt (next t c) u ≡ afterChange (change u (answered t c)) (stateAt t u)
+unfolding change
+state-change t l c u = rw (next-moved t c) (state-moved t (eventTag (answered t c)) (eventChange (answered t c)) l (fair t c) u)
+
+module _ {o : Origin} {t : Table} (g : Sound o t) where
+  pub state-next : (c : Call) (u : ℕ) → stateAt (next t c) u ≡ afterChange (change u (answered t c)) (stateAt t u)
+  state-next c u = state-change t (g .size) c u
+
+  -- the windows of two open tags share no byte
+  pub apart : (u v : ℕ) → u ≢ v → (r s : Read) → stateAt t u ≡ Open r → stateAt t v ≡ Open s → sharesByte (r .request) (s .request) ≡ false
+  apart u v h r s e f = rw (e, f) at (g .disjoint u v h)
+
+-- ---- what holds is kept
+
+moved-origin : (c : Change) (t : Table) (tag : ℕ) → moved c t tag .origin ≡ t .origin
+unfolding withState
+moved-origin keeps t tag = refl
+moved-origin (opens q) t tag = refl
+moved-origin (adds b) t tag = refl
+moved-origin closes t tag = refl
+
+moved-size : (c : Change) (t : Table) (tag : ℕ) → length (moved c t tag .slots) ≡ length (t .slots)
+moved-size keeps t tag = refl
+moved-size (opens q) t tag = size-with t tag _
+moved-size (adds b) t tag = size-with t tag _
+moved-size closes t tag = size-with t tag _
+
+moved-over : (c : Change) (t : Table) (tag : ℕ) → Fair t tag c → (v : ℕ) → limitOf t ≤ v → slotState t v ≡ Free → slotState (moved c t tag) v ≡ Free
+moved-over keeps t tag f v h e = e
+moved-over (opens q) t tag f v h e = slot-with-free t tag _ v (λ k. let l : tag < limitOf t = f .within in absurd (omega arith)) e
+moved-over (adds b) t tag f v h e = slot-with-free t tag _ v (λ k. rw (state-over t tag (omega arith))) e
+moved-over closes t tag f v h e = slot-with-free t tag Free v (λ k. refl) e
+
+-- the read that a piece adds to
+pub adds-to : (t : Table) (u : ℕ) (b : List ℕ) (f : FairAdd t u b) → stateAt t u ≡ Open (f .read)
+adds-to t u b f = rw (f .named) at (f .met .is-open)
+
+valid-later : (s : Settings) (r : Read) (p : ℕ) → validRead s r ≡ true → p < r .request .access .length → validRead s (record { request = r .request; taken = p }) ≡ true
+unfolding validRead
+valid-later s r p e h =
+    let a = and-eq-true-iff (eqb (first (requestRows (r .request) ++ placeRows s (r .request) storeLimit)) 0) (ltb (r .taken) (r .request .access .length)) .0 e in
+    rw (a .0, lt-ltb p (r .request .access .length) h)
+
+valid-after : (s : Settings) (t : Table) (u : ℕ) (c : Change) → t .origin .settings ≡ s → Fair t u c → validState s (stateAt t u) ≡ true
+    → validState s (afterChange c (stateAt t u)) ≡ true
+valid-after s t u keeps k f e = e
+valid-after s t u (opens q) k f e = rw k at (f .fine)
+valid-after s t u (adds b) k f e = rw (adds-to t u b f) (valid-later s (f .read) _ (rw (adds-to t u b f) at e) (f .below))
+valid-after s t u closes k f e = refl
+
+shares-sym : (x y : State) → sharesStates x y ≡ sharesStates y x
+unfolding sharesByte
+shares-sym Free Free = refl
+shares-sym Free (Open s) = refl
+shares-sym (Open r) Free = refl
+shares-sym (Open r) (Open s) = and-comm (ltb (r .request .start) (windowEnd (s .request))) (ltb (s .request .start) (windowEnd (r .request)))
+
+shares-after : (t : Table) (u : ℕ) (c : Change) → Fair t u c → (v : ℕ) → sharesStates (stateAt t u) (stateAt t v) ≡ false
+    → sharesStates (afterChange c (stateAt t u)) (stateAt t v) ≡ false
+shares-after t u keeps f v e = e
+shares-after t u (opens q) f v e = f .clear v
+shares-after t u (adds b) f v e = rw (adds-to t u b f) (rw (adds-to t u b f) at e)
+shares-after t u closes f v e = refl
+
+change-other : (e : Event) (u : ℕ) → eventTag e ≢ u → change u e ≡ keeps
+unfolding change
+change-other e u h = rw (ne-eqb (eventTag e) u h)
+
+-- an event changes one tag's record at most
+disjoint-after : (t : Table) (e : Event) → ((u : ℕ) → Fair t u (change u e)) → (u v : ℕ) → u ≢ v → sharesStates (stateAt t u) (stateAt t v) ≡ false
+    → sharesStates (afterChange (change u e) (stateAt t u)) (afterChange (change v e) (stateAt t v)) ≡ false
+disjoint-after t e f u v h k = go (either (eqb (eventTag e) u))
+  where
+    go : (eqb (eventTag e) u ≡ true) ⊎ (eqb (eventTag e) u ≡ false)
+        → sharesStates (afterChange (change u e) (stateAt t u)) (afterChange (change v e) (stateAt t v)) ≡ false
+    go (inl a) = rw (change-other e v (λ b. h (sym (eqb-true (eventTag e) u a) ∙ b))) (shares-after t u (change u e) (f u) v k)
+    go (inr a) =
+        rw (change-other e u (eqb-false (eventTag e) u a), shares-sym (stateAt t u) (afterChange (change v e) (stateAt t v)))
+        (shares-after t v (change v e) (f v) u (shares-sym (stateAt t v) (stateAt t u) ∙ k))
+
+module _ {o : Origin} {t : Table} (g : Sound o t) where
+  pub sound-next : (c : Call) → Sound o (next t c)
+  sound-next c =
+      record {
+        listed = g .listed;
+        origin = rw (next-moved t c) (moved-origin ch t tag ∙ g .origin);
+        size = rw (next-moved t c) (moved-size ch t tag ∙ g .size);
+        over = λ u h. rw (next-moved t c) (moved-over ch t tag (fair t c) u (rw (g .origin) h) (g .over u h));
+        states = λ u. rw (state-next g c u) (valid-after (o .settings) t u (change u (answered t c)) (ap (λ (x : Origin). x .settings) (g .origin)) (fair-at t c u) (g .states u));
+        disjoint = λ u v h. rw (state-next g c u, state-next g c v) (disjoint-after t (answered t c) (fair-at t c) u v h (g .disjoint u v h));
+      }
+    where
+      ch : Change
+      ch = eventChange (answered t c)
+
+      tag : ℕ
+      tag = eventTag (answered t c)
+
+pub sound-run : {o : Origin} {t : Table} → Sound o t → (cs : List Call) → Sound o (run t cs)
+unfolding run
+sound-run g [] = g
+sound-run g (c ∷ cs) = sound-run (sound-next g c) cs
+
+-- ---- a reached table is valid
+
+all-of : {A : Type 0} (f : A → Bool) (d : A) (xs : List A) → ((u : ℕ) → f (getD xs u d) ≡ true) → allOf f xs ≡ true
+unfolding allOf
+all-of f d [] h = refl
+all-of f d (x ∷ xs) h = rw (h 0) (all-of f d xs (λ u. h (suc u)))
+
+module _ {o : Origin} {t : Table} (g : Sound o t) where
+  pub limit-of : limitOf t ≡ tagLimit (o .settings)
+  limit-of = ap (λ (x : Origin). tagLimit (x .settings)) (g .origin)
+
+  slot-valid : (u : ℕ) → validState (o .settings) (slotState t u) ≡ true
+  slot-valid u = go (either (ltb u (limitOf t)))
+    where
+      go : (ltb u (limitOf t) ≡ true) ⊎ (ltb u (limitOf t) ≡ false) → validState (o .settings) (slotState t u) ≡ true
+      go (inl h) = rw (← (state-below t u (ltb-true u (limitOf t) h))) (g .states u)
+      go (inr h) = rw (g .over u (rw limit-of at (ltb-false u (limitOf t) h)))
+
+  pub sound-valid : validTable t ≡ true
+  unfolding validTable validSlot
+  sound-valid = rw (g .origin, g .listed) (all-of (validSlot (o .settings)) freeSlot (t .slots) slot-valid)

@@ -1,0 +1,41 @@
+-- Demand 2's last sentence.
+use Prim.Native.Nat.{ℕ}
+use mathlib.Core.Path.{_≡_, ap, _∙_}
+use mathlib.Core.Logic.{_⊎_, inl, inr}
+use mathlib.Core.Bool.{Bool, true, false}
+use mathlib.Core.List.{List}
+use lib.Dec.{eqb}
+use borrow.Author.Tests.{eq-eqb}
+use Rattle.bits.specs.Choice.{pick}
+use Rattle.read_rules.specs.declared.validity.Read.{Read}
+use Rattle.read_rules.specs.Validity.{owedOf}
+use Rattle.reads.specs.declared.table.Table.{Table}
+use Rattle.reads.specs.declared.answer.TakeAnswer.{TakeAnswer}
+use Rattle.reads.specs.declared.answer.TakeAnswer.the-variants.{More, Done}
+use Rattle.reads.specs.TakeCall.{takeCall}
+use Rattle.cuttings.specs.Lawful.{pieceIn}
+use Rattle.reads_demands.specs.Demand2.{Continues, TakenExactly}
+use Rattle.reads_demands.proofs.OneTake.{takes, Met, meets, continues, done-last}
+
+chosen : (a : Bool) (x : TakeAnswer) → x ≡ pick a Done More → (x ≡ More) ⊎ (x ≡ Done)
+chosen true x e = inr e
+chosen false x e = inl e
+
+module _ (t : Table) (b : List ℕ) (room : ℕ) where
+  met : Met t b room → (r : Read) × Continues t b room r
+  met m = (m .read, m .continues)
+
+  some-read : (takeCall t b room .answer ≡ More) ⊎ (takeCall t b room .answer ≡ Done) → (r : Read) × Continues t b room r
+  some-read (inl e) = met (meets t b room (ap takes e))
+  some-read (inr e) = met (meets t b room (ap takes e))
+
+  is-done : takeCall t b room .answer ≡ Done → (r : Read) × (Continues t b room r × (pieceIn b .length ≡ owedOf r))
+  is-done e =
+      let m = meets t b room (ap takes e) in
+      (m .read, (m .continues, done-last t b room m e))
+
+pub taken-exactly : TakenExactly
+taken-exactly t b room v = record {
+  taken = (some-read t b room, λ k. chosen (eqb (pieceIn b .length) (owedOf (k .0))) _ (continues t b room (k .0) v (k .1)));
+  done = (is-done t b room, λ k. continues t b room (k .0) v (k .1 .0) ∙ rw (eq-eqb _ _ (k .1 .1)));
+}

@@ -1,0 +1,3 @@
+pub mod ScanLaws
+pub mod MergeSteps
+pub mod MergeLaws
