@@ -49,6 +49,16 @@ def files_below(folder, ending):
     return sorted(found)
 
 
+def heading(text):
+    """The comment at the head of a file, as one line."""
+    said = []
+    for line in text:
+        if not line.startswith("-- "):
+            break
+        said.append(line[3:].strip())
+    return " ".join(said)
+
+
 def definitions():
     """The files of definitions with their line counts and the first words of each."""
     rows = ["| File | Lines | What it defines |", "|---|---|---|"]
@@ -59,8 +69,7 @@ def definitions():
             if os.path.basename(name) == "Lib.antt":
                 continue
             total += len(text)
-            said = text[0][3:] if text and text[0].startswith("-- ") else ""
-            said = re.split(r"(?<=[.:]) ", said)[0]
+            said = re.split(r"(?<=[.]) ", heading(text))[0]
             rows.append("| crates/%s/specs/%s | %d | %s |" % (crate, os.path.basename(name), len(text), said))
     rows.append("| all | %d | |" % total)
     return rows

@@ -1,4 +1,4 @@
--- A choice between two values by a test, and a number's place in a list.
+-- A choice between two values by a test, a test as a number, and a number's place in a list.
 use Prim.Native.Nat.{ℕ}
 use mathlib.Core.Bool.{Bool, true, false, _||_}
 use mathlib.Core.List.{List, [], _∷_}
@@ -7,6 +7,11 @@ use lib.Dec.{eqb}
 abbrev pub pick : {A : Type 0} → Bool → A → A → A
 pick true a b = a
 pick false a b = b
+
+-- a flag as a bit
+abbrev pub flag : Bool → ℕ
+flag true = 1
+flag false = 0
 
 -- whether x stands in the list
 abbrev pub oneOf : List ℕ → ℕ → Bool

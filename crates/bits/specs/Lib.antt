@@ -2,3 +2,4 @@ pub mod Choice
 pub mod Field
 pub mod Word
 pub mod Count
+pub mod Put

@@ -5,7 +5,7 @@ use mathlib.Core.Bool.{Bool, true, false, _||_, _&&_, not}
 use native.Mathlib.Omega.{arith}
 use native.Mathlib.Nat.{add-mod, mod-lt, mod-zero}
 use lib.Dec.{eqb, leb}
-use borrow.Author.Tests.{le-leb, lt-leb, eq-eqb, ne-eqb, not-true, not-false}
+use borrow.Author.Tests.{le-leb, lt-leb, eq-eqb, ne-eqb, eqb-true, not-true, not-false}
 use Rattle.bits.specs.Choice.{pick}
 use Rattle.byte_enables.specs.declared.Access.{Access}
 use Rattle.byte_enables.specs.Enables.{off, trail, total}
@@ -17,28 +17,41 @@ use Rattle.read_rules.specs.Continuations.{byteCountAt, lowerAddressAt, 
 -- ---- Byte Count and Lower Address
 
 module _ (a : Access) (p : ℕ) where
-  pub count-first : (n : ℕ) → p ≡ 0 → n ≡ total a → n ≡ byteCountAt a p
-  unfolding byteCountAt
-  count-first n h e = rw h e
+  pub off-first : (n : ℕ) → p ≡ 0 → n ≡ off a → n ≡ pick (eqb p 0) (off a) 0
+  off-first n h e = rw (eq-eqb p 0 h) e
 
-  pub count-none : (r t : ℕ) → (p ≡ 0 → ⊥) → r ≡ a .length - p → t ≡ trail a → 4 * r < t → 0 ≡ byteCountAt a p
-  unfolding byteCountAt
-  count-none r t h e f g = rw (ne-eqb p 0 h, ← e, ← f) (omega arith)
+  pub off-later : (p ≡ 0 → ⊥) → 0 ≡ pick (eqb p 0) (off a) 0
+  off-later h = rw (ne-eqb p 0 h)
 
-  pub count-later : (r t : ℕ) → (p ≡ 0 → ⊥) → r ≡ a .length - p → t ≡ trail a → 4 * r - t ≡ byteCountAt a p
-  unfolding byteCountAt
-  count-later r t h e f = rw (ne-eqb p 0 h, ← e, ← f)
+  -- off counts at the read's start alone
+  count : 4 * (a .length - p) - (pick (eqb p 0) (off a) 0 + trail a) ≡ byteCountAt a p
+  unfolding byteCountAt total
+  count = go (eqb p 0) refl
+    where
+      go : (b : Bool) → eqb p 0 ≡ b → 4 * (a .length - p) - (pick b (off a) 0 + trail a) ≡ pick b (4 * a .length - off a - trail a) (4 * (a .length - p) - trail a)
+      go true e = let z = eqb-true p 0 e in omega arith
+      go false e = omega arith
 
-  pub lower-first : (n : ℕ) → p ≡ 0 → n ≡ off a → (a .address % 128 + n) % 128 ≡ lowerAddressAt a p
+  module _ (r o t : ℕ) (e : r ≡ a .length - p) (f : o ≡ pick (eqb p 0) (off a) 0) (g : t ≡ trail a) where
+    pub count-none : 4 * r < o + t → 0 ≡ byteCountAt a p
+    count-none h =
+        let z : 4 * (a .length - p) - (pick (eqb p 0) (off a) 0 + trail a) ≡ 0 = rw (← e, ← f, ← g) (omega arith) in
+        sym z ∙ count
+
+    pub count-some : 4 * r - (o + t) ≡ byteCountAt a p
+    count-some = rw (e, f, g) count
+
+  pub lower-at : (o : ℕ) → o ≡ pick (eqb p 0) (off a) 0 → (a .address % 128 + 4 * p + o) % 128 ≡ lowerAddressAt a p
   unfolding lowerAddressAt
-  lower-first n h e = rw (h, ← e) (omega arith)
+  lower-at o e = rw e (go (eqb p 0) refl)
+    where
+      go : (b : Bool) → eqb p 0 ≡ b → (a .address % 128 + 4 * p + pick b (off a) 0) % 128 ≡ pick b ((a .address + off a) % 128) ((a .address + 4 * p) % 128)
+      go true e = let z = eqb-true p 0 e in omega arith
+      go false e = omega arith
 
-  pub lower-later : (p ≡ 0 → ⊥) → (a .address % 128 + 4 * p) % 128 ≡ lowerAddressAt a p
-  unfolding lowerAddressAt
-  lower-later h = rw (ne-eqb p 0 h) (omega arith)
+pub ruleset off-laws = (off-first, off-later)
 
-pub ruleset count-laws = (count-first, count-none, count-later)
-pub ruleset lower-laws = (lower-first, lower-later)
+pub ruleset count-laws = (count-none, count-some)
 
 -- ---- the boundary
 

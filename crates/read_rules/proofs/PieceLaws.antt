@@ -10,7 +10,7 @@ use Rattle.tlp.specs.declared.packet.Kind.{Kind}
 use Rattle.tlp.specs.declared.packet.Packet.{Packet}
 use Rattle.tlp.specs.declared.packet_type.PacketType.{PacketType}
 use Rattle.tlp.specs.declared.packet_type.Family.{Family}
-use Rattle.tlp_write.specs.Layout.{idOf}
+use Rattle.tlp.specs.Packets.{idOf}
 use Rattle.read_rules.specs.Pieces.{ofCompletions, isCompletion, headerIn, pieceOf}
 use Rattle.read_rules.specs.declared.piece.Piece.{Piece}
 

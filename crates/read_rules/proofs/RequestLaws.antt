@@ -50,7 +50,7 @@ pub given-law : (r : Bool) (q : ReadRequest) → q .access .address < 2 ^ 64
 unfolding givenBad first requestPacket commonBad ownBad requestBad reservedGiven routeBad addressRouteBad typeOf
 given-law r q h e =
     rw (lt-leb (2 ^ 64) (q .access .address) h, plain-form)
-      (e ∙ sym (six (leb 8 (q .«traffic_class»)) (leb 8 (q .attributes)) (lengthBad (q .access .length)) (leb 16 (q .access .first)) (leb 16 (q .access .last)) (not (eqb (q .access .address % 4) 0)) false refl))
+    (e ∙ sym (six (leb 8 (q .«traffic_class»)) (leb 8 (q .attributes)) (lengthBad (q .access .length)) (leb 16 (q .access .first)) (leb 16 (q .access .last)) (not (eqb (q .access .address % 4) 0)) false refl))
 
 -- ---- validity
 

@@ -51,6 +51,7 @@ module _ (q : ReadRequest) (room : ℕ) where
   holds-within w r h e f = rw (le-leb room storeLimit h, ← e, f) (not-before room (q .start + w))
 
 pub ruleset place-laws = (place-over, place-off, place-past)
+
 pub ruleset holds-laws = (holds-over, holds-within)
 
 module _ (q r : ReadRequest) (w : ℕ) (x : Bool) (e : w ≡ 4 * r .access .length) (f : x ≡ ltb (q .start) (r .start + w)) where

@@ -9,7 +9,7 @@ use Rattle.tlp.specs.declared.packet.Kind.the-variants.{MemoryRead, MemoryWrite
 use Rattle.tlp.specs.declared.packet.Packet.{Packet}
 use Rattle.tlp.specs.declared.packet_type.Family.{Family}
 use Rattle.tlp.specs.declared.packet_type.Family.the-variants.{Memory, Io, Config, Message as OfMessages, Completion as OfCompletions, Unlisted}
-use Rattle.tlp_write.specs.Layout.{idOf}
+use Rattle.tlp.specs.Packets.{idOf}
 use Rattle.read_rules.specs.declared.piece.Piece.{Piece}
 
 abbrev pub ofCompletions : Family → Bool

@@ -3,13 +3,14 @@ use crate::piece::Piece;
 use crate::validity::Read;
 use byte_enables::Access;
 use byte_enables::off_of;
-use byte_enables::total_of;
 use byte_enables::trail_of;
 use tlp::settings::Settings;
 ghost use mathlib.Core.Path.{_≡_};
 ghost use mathlib.Core.Bool.{_||_, _&&_};
 ghost use Prim.Native.Nat.{_+_, _*_, _%_, _<_, _-_};
 ghost use lib.Dec.{eqb, leb};
+ghost use Rattle.bits.specs.Choice.{pick};
+ghost use Rattle.byte_enables.specs.Enables.{off};
 ghost use Rattle.read_rules.specs.Continuations.{byteCountAt, lowerAddressAt, cutAllowed, legal, succeeds, statusBad, differs, reported};
 
 // What a table is made from; fixed for its life.
@@ -28,15 +29,22 @@ fn rest_of(a: Access, p: u32) -> u32
     a.length - p
 }
 
+// The bytes before the first enabled one: only the piece at the read's start has them.
+fn off_at(a: Access, p: u32) -> u32
+    ensures { λ n. ⌜ n ≡ pick (eqb p 0) (off a) 0 ⌝ }
+{
+    if p == 0 {
+        return off_of(a);
+    }
+    0
+}
+
 // The Byte Count that a piece at doubleword p must have.
 pub fn byte_count_at(a: Access, p: u32) -> u64
     ensures { λ n. ⌜ n ≡ byteCountAt a p ⌝ }
 {
-    if p == 0 {
-        return total_of(a);
-    }
     let all = 4 * rest_of(a, p) as u64;
-    let out = trail_of(a) as u64;
+    let out = off_at(a, p) as u64 + trail_of(a) as u64;
     if all < out {
         return 0;
     }
@@ -47,11 +55,7 @@ pub fn byte_count_at(a: Access, p: u32) -> u64
 pub fn lower_address_at(a: Access, p: u32) -> u64
     ensures { λ n. ⌜ n ≡ lowerAddressAt a p ⌝ }
 {
-    let low = a.address % 128;
-    if p == 0 {
-        return (low + off_of(a) as u64) % 128;
-    }
-    (low + 4 * p as u64) % 128
+    (a.address % 128 + 4 * p as u64 + off_at(a, p) as u64) % 128
 }
 
 // Whether address + bytes is a multiple of the read completion boundary.

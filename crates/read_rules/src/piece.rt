@@ -2,14 +2,13 @@
 use tlp::packet::CompletionHeader;
 use tlp::packet::Kind;
 use tlp::packet::Packet;
-use tlp::packet::Route;
 use tlp::packet::access_of;
+use tlp::packet::id_of;
 use tlp::packet::type_of;
 use tlp::packet_type::Family;
 use tlp::packet_type::family_of;
 use tlp::packet_type::has_data;
 ghost use mathlib.Core.Path.{_≡_};
-ghost use Rattle.tlp_write.specs.Layout.{idOf};
 ghost use Rattle.read_rules.specs.Pieces.{ofCompletions, isCompletion, noHeader, headerIn, pieceOf};
 
 // What a packet says as a completion; with_data tells CplD from Cpl, and a Cpl has length 0.
@@ -78,16 +77,6 @@ fn header_in(k: Kind) -> CompletionHeader
             completion,
             length: _,
         } => completion,
-    }
-}
-
-fn id_of(r: Route) -> u16
-    ensures { λ i. ⌜ i ≡ idOf r ⌝ }
-{
-    match r {
-        Route::Address(_) => 0,
-        Route::Id(i) => i,
-        Route::Implicit(_) => 0,
     }
 }
 

@@ -1,13 +1,13 @@
 // A memory read as open is asked for it, and the numbers that the writer gives for its header.
 use byte_enables::Access;
 use byte_enables::enables_allowed;
+use tlp::content::crosses_page;
 use tlp::packet::Kind;
 use tlp::packet::Packet;
 use tlp::packet::Request;
 use tlp::packet::Route;
 ghost use mathlib.Core.Path.{_≡_};
 ghost use Rattle.tlp.specs.Rows.{first};
-ghost use Rattle.tlp.specs.Contents.{crossesPage};
 ghost use Rattle.tlp_given.specs.Given.{lengthBad};
 ghost use Rattle.read_rules.specs.Requests.{requestPacket, givenBad, requestRows};
 
@@ -71,12 +71,6 @@ fn given_bad(q: ReadRequest) -> bool
         return true;
     }
     a.address % 4 != 0
-}
-
-fn crosses_page(a: Access) -> bool
-    ensures { λ r. ⌜ r ≡ crossesPage a ⌝ }
-{
-    4096 < a.address % 4096 + 4 * a.length as u64
 }
 
 // The first of 6, 7 and 8 that holds; 0 where none does.

@@ -1,4 +1,5 @@
 // Writing the bytes of a piece into the store.
+use bits::choice::lesser;
 use byte_enables::Access;
 use byte_enables::enables_at;
 use read_rules::request::ReadRequest;
@@ -41,15 +42,6 @@ pub fn store_enabled(a: Access, p: u32, payload: &[u8], part: &mut [u8])
         part[i] = chosen(byte_enabled(a, p, i), payload[i], part[i]);
         i += 1;
     }
-}
-
-fn lesser(a: usize, b: usize) -> usize
-    ensures { λ r. ⌜ r ≡ min a b ⌝ }
-{
-    if a < b {
-        return a;
-    }
-    b
 }
 
 // Writes the enabled bytes of a payload into the store: the part that starts at window start plus 4p is lent. A start is any number; past the store

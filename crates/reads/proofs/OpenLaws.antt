@@ -144,11 +144,12 @@ module _ (t : Table) (q : ReadRequest) (tag room n : ℕ) (e : n ≡ first (earl
     unfolding openOut openCall writeOut
     open-out requester out out′ g =
         rw (agrees requester (length out) (writePacket (t .origin .settings) (headerPacket (t .origin) q tag) 0 (length out)) refl)
-          (g ∙ same (writePacket (t .origin .settings) (headerPacket (t .origin) q tag) 0 (length out)))
+        (g ∙ same (writePacket (t .origin .settings) (headerPacket (t .origin) q tag) 0 (length out)))
       where
         same : (x : WriteAnswer) → outAfter x (bytesOf (headerPacket (t .origin) q tag) []) out ≡ outGiven (fromWriter x) (bytesOf (headerPacket (t .origin) q tag) []) out
         same (Written n) = refl
         same (Unwritten r) = refl
 
 pub ruleset open-laws = (open-refused, open-unwritten, open-written)
+
 pub ruleset out-laws = (open-refused-out, open-out)

@@ -246,4 +246,5 @@ module _ (t : Table) (b : List ℕ) (v : Bool) (e : v ≡ validTable t) where
     take-store-read store p d store′ g k q = rw (← e, not-false v h, ← f, g, ← k) q
 
 pub ruleset take-laws = (take-11, take-unread, take-read)
+
 pub ruleset take-store-laws = (take-store-11, take-store-unread, take-store-read)

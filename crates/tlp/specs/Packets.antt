@@ -19,6 +19,12 @@ addressOf (Address a) = a
 addressOf (Id i) = 0
 addressOf (Implicit w) = 0
 
+-- the ID of a route; 0 where it has none
+abbrev pub idOf : Route → ℕ
+idOf (Address a) = 0
+idOf (Id i) = i
+idOf (Implicit w) = 0
+
 -- "the 32-bit form for memory addresses below 4 GiB, the 64-bit form for others"
 abbrev pub memoryForm : ℕ → PacketType → PacketType → PacketType
 memoryForm a narrow wide = pick (ltb a (2 ^ 32)) narrow wide

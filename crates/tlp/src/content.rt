@@ -64,7 +64,7 @@ fn enables_bad(f: Family, a: Access) -> bool
     }
 }
 
-fn crosses_page(a: Access) -> bool
+pub fn crosses_page(a: Access) -> bool
     ensures { λ r. ⌜ r ≡ crossesPage a ⌝ }
 {
     4096 < a.address % 4096 + 4 * a.length as u64

@@ -2,7 +2,7 @@
 use crate::packet_type::PacketType;
 use byte_enables::Access;
 ghost use mathlib.Core.Path.{_≡_};
-ghost use Rattle.tlp.specs.Packets.{addressOf, memoryForm, typeOf, accessAt, lengthAlone, accessOf};
+ghost use Rattle.tlp.specs.Packets.{addressOf, idOf, memoryForm, typeOf, accessAt, lengthAlone, accessOf};
 
 // Where an implicitly routed message goes: routing 000, 011, 100, 101.
 pub enum Implicit {
@@ -92,6 +92,17 @@ pub fn address_of(r: Route) -> u64
     match r {
         Route::Address(a) => a,
         Route::Id(_) => 0,
+        Route::Implicit(_) => 0,
+    }
+}
+
+// The ID of a route; 0 where it has none.
+pub fn id_of(r: Route) -> u16
+    ensures { λ i. ⌜ i ≡ idOf r ⌝ }
+{
+    match r {
+        Route::Address(_) => 0,
+        Route::Id(i) => i,
         Route::Implicit(_) => 0,
     }
 }

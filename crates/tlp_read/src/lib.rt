@@ -2,6 +2,7 @@
 mod fields;
 mod rows;
 
+use bits::choice::lesser;
 use tlp::packet::Packet;
 use tlp::packet::access_of;
 use tlp::packet::type_of;
@@ -63,15 +64,6 @@ pub fn read(settings: Settings, bytes: &[u8]) -> ReadAnswer
             read_sized(settings.mps, type_at(bits::word::byte_at(bytes, 0)), bytes)
         }
     }
-}
-
-fn lesser(a: usize, b: usize) -> usize
-    ensures { λ r. ⌜ r ≡ min a b ⌝ }
-{
-    if a < b {
-        return a;
-    }
-    b
 }
 
 // The data of a packet, as the part of the bytes that holds it.

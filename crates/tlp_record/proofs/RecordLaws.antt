@@ -7,7 +7,7 @@ use lib.Dec.{eqb}
 use native.Mathlib.Omega.{arith}
 use lib.ListN.{length, getD, take, drop, length-append, drop-of-length-le}
 use borrow.Rule.Slice.PartMut.{putMid}
-use Rattle.tlp_write.specs.Put.{put}
+use Rattle.bits.specs.Put.{put}
 use Rattle.tlp_write.proofs.PutLaws.{copied, put-front, put-next}
 use borrow.Author.Tests.{eq-eqb, ne-eqb, eqb-true}
 use Rattle.bits.specs.Word.{byte, word, bytes}
@@ -17,7 +17,7 @@ use Rattle.tlp.specs.declared.packet.Request.{Request}
 use Rattle.tlp.specs.declared.packet.Kind.{Kind}
 use Rattle.tlp.specs.declared.packet.Kind.the-variants.{MemoryRead}
 use Rattle.tlp.specs.declared.packet.Packet.{Packet}
-use Rattle.tlp_write.specs.Layout.{flag}
+use Rattle.bits.specs.Choice.{flag}
 use Rattle.tlp_record.specs.declared.OwnFields.{OwnFields}
 use Rattle.tlp_record.specs.declared.RecordAnswer.the-variants.{Described, NoRecord}
 use Rattle.tlp_record.specs.Record.{ownOf, routeCase, routeValue, frontPart, sizesPart, countPart, endPart, recordOf, requestIn, configIn, messageIn, completionIn, kindNumbered, kindIn, routeNumbered, routeIn, packetIn, sameList, isRecord, describedBy}

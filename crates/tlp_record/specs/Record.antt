@@ -17,7 +17,8 @@ use Rattle.tlp.specs.declared.packet.CompletionHeader.{CompletionHeader}
 use Rattle.tlp.specs.declared.packet.Kind.{Kind}
 use Rattle.tlp.specs.declared.packet.Kind.the-variants.{MemoryRead, MemoryWrite, IoRead, IoWrite, ConfigRead0, ConfigWrite0, ConfigRead1, ConfigWrite1, Message, MessageData, Completion, CompletionData}
 use Rattle.tlp.specs.declared.packet.Packet.{Packet}
-use Rattle.tlp_write.specs.Layout.{flag, idOf}
+use Rattle.tlp.specs.Packets.{idOf}
+use Rattle.bits.specs.Choice.{flag}
 use Rattle.tlp_record.specs.declared.OwnFields.{OwnFields}
 use Rattle.tlp_record.specs.declared.RecordAnswer.{RecordAnswer}
 use Rattle.tlp_record.specs.declared.RecordAnswer.the-variants.{Described, NoRecord}

@@ -1,4 +1,5 @@
 // The packet record: a packet as 48 bytes, and back.
+use bits::choice::flag_of;
 use bits::word::byte_at;
 use bits::word::bytes16;
 use bits::word::bytes32;
@@ -18,8 +19,7 @@ ghost use mathlib.Core.Path.{_≡_};
 ghost use mathlib.Core.List.{List, [], _∷_, _++_};
 ghost use Prim.Native.Nat.{ℕ, _≤_};
 ghost use Rattle.bits.specs.Word.{bytes};
-ghost use Rattle.tlp_write.specs.Layout.{flag};
-ghost use Rattle.tlp_write.specs.Put.{put};
+ghost use Rattle.bits.specs.Put.{put};
 ghost use Rattle.tlp_record.specs.Record.{requestFields, configFields, messageFields, completionFields, ownOf, routeCase, routeValue, frontPart, sizesPart, countPart, endPart, recordOf, requestIn, configIn, messageIn, completionIn, kindIn, routeIn, packetIn, describedBy};
 
 // A kind's number and its own fields, each 0 where the kind has none.
@@ -142,15 +142,6 @@ fn own_of(k: Kind) -> OwnFields
         Kind::Completion(c) => completion_fields(11, c, 0),
         Kind::CompletionData { completion, length } => completion_fields(12, completion, length),
     }
-}
-
-fn flag_of(b: bool) -> u8
-    ensures { λ r. ⌜ r ≡ flag b ⌝ }
-{
-    if b {
-        return 1;
-    }
-    0
 }
 
 fn implicit_case(w: Implicit) -> u8

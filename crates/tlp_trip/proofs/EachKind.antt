@@ -24,7 +24,8 @@ use Rattle.tlp.specs.declared.packet_type.PacketType.{PacketType}
 use Rattle.tlp.specs.declared.packet_type.PacketType.the-variants.{MRd32, MRd64, MWr32, MWr64, IOWr, CfgWr0, CfgWr1, Msg, MsgD, CplD}
 use Rattle.tlp_read.specs.Fields.{requestAt, routeAt, kindAt}
 use Rattle.tlp_read.specs.Read.{routingBad, formBad}
-use Rattle.tlp_write.specs.Layout.{routing, routingIn, idOf, requestBytes, memoryAddress, ownBytes}
+use Rattle.tlp_write.specs.Layout.{routing, routingIn, requestBytes, memoryAddress, ownBytes}
+use Rattle.tlp.specs.Packets.{idOf}
 use Rattle.tlp_given.specs.Given.{lengthBad, requestBad, configBad, ownBad, routeBad}
 use Rattle.tlp_trip.proofs.Tests.{left-no, right-no}
 use Rattle.tlp_trip.proofs.Fits.{request-fits, config-fits}

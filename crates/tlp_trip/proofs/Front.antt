@@ -16,7 +16,8 @@ use Rattle.tlp.specs.Packets.{typeOf, accessOf}
 use Rattle.tlp.specs.Sizes.{orMost, lengthAt, digestAt}
 use Rattle.tlp.specs.declared.packet.Packet.{Packet}
 use Rattle.tlp_read.specs.Fields.{trafficClassAt, attributesAt, hintAt, addressTypeAt, poisonedAt}
-use Rattle.tlp_write.specs.Layout.{flag, frontBytes}
+use Rattle.tlp_write.specs.Layout.{frontBytes}
+use Rattle.bits.specs.Choice.{flag}
 use Rattle.tlp_given.specs.Given.{lengthBad, reservedGiven}
 use Rattle.tlp_trip.proofs.Fits.{CommonFits, inside}
 

@@ -21,7 +21,9 @@ use Rattle.tlp.specs.declared.packet.ConfigRequest.{ConfigRequest}
 use Rattle.tlp.specs.declared.packet.MessageRequest.{MessageRequest}
 use Rattle.tlp.specs.declared.packet.CompletionHeader.{CompletionHeader}
 use Rattle.tlp_read.specs.Fields.{requestAt, configAt, messageAt, completionAt, implicitAt, messageRouteAt}
-use Rattle.tlp_write.specs.Layout.{flag, routing, idOf, requestBytes, configBytes, messageBytes, completionBytes}
+use Rattle.tlp_write.specs.Layout.{routing, requestBytes, configBytes, messageBytes, completionBytes}
+use Rattle.tlp.specs.Packets.{idOf}
+use Rattle.bits.specs.Choice.{flag}
 use Rattle.tlp_given.specs.Given.{over, lengthBad, requestBad, configBad, messageBad, completionBad, addressRouteBad, idRouteBad, messageRouteBad}
 use Rattle.tlp_trip.proofs.Tests.{left-no, right-no}
 use Rattle.tlp_trip.proofs.Fits.{fits, RequestFits, request-fits, ConfigFits, config-fits, message-fits, CompletionFits, completion-fits}

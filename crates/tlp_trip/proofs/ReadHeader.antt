@@ -20,7 +20,8 @@ use Rattle.tlp.specs.declared.packet_type.PacketType.{PacketType}
 use Rattle.tlp.specs.declared.packet_type.PacketType.the-variants.{MRd32, MRd64, MWr32, MWr64, IORd, IOWr, CfgRd0, CfgWr0, CfgRd1, CfgWr1, Msg, MsgD, Cpl, CplD, Unlisted}
 use Rattle.tlp_read.specs.Fields.{packetAt, attributesAt, addressTypeAt, hintAt, addressAt, routeAt, kindAt, requestAt, configAt, messageAt, completionAt}
 use Rattle.tlp_read.specs.Read.{hintsBad, formBad}
-use Rattle.tlp_write.specs.Layout.{flag, requestBytes, configBytes, messageBytes, completionBytes, memoryAddress, ownBytes, frontBytes, headerOf}
+use Rattle.tlp_write.specs.Layout.{requestBytes, configBytes, messageBytes, completionBytes, memoryAddress, ownBytes, frontBytes, headerOf}
+use Rattle.bits.specs.Choice.{flag}
 use Rattle.tlp_trip.specs.RoundTrips.{Bytes}
 use Rattle.tlp_trip.proofs.Tests.{left-no, right-no}
 use Rattle.tlp_trip.proofs.ReadRows.{Sound}

@@ -16,7 +16,7 @@ use Rattle.bits.specs.Field.{field, low, bit}
 use Rattle.bits.specs.Word.{byte}
 use Rattle.tlp.specs.PacketTypes.{typeAt, firstByte, familyOf, isUnlisted, isMessage}
 use Rattle.tlp.specs.Reserved.{masked}
-use Rattle.tlp_write.specs.Layout.{flag}
+use Rattle.bits.specs.Choice.{flag}
 
 -- ---- a list under masks, byte by byte
 

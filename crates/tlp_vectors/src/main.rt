@@ -4,6 +4,7 @@
 // and one that asks for a writing
 //   w MPS MRRS RCB ROOM LENGTH RECORD PAYLOAD
 // with eight hexadecimal digits for a setting, four for the output's room and the record's length, and two for each byte.
+use bits::choice::lesser;
 use bits::word::byte_at;
 use tlp::settings::Settings;
 use tlp_read::ReadAnswer;
@@ -77,15 +78,6 @@ fn number16(line: &[u8], at: u16) -> usize
 fn byte_of(text: &[u8], at: u16) -> u8 {
     let i = at as u32;
     value(byte_at(text, i)) % 16 * 16 + value(byte_at(text, i + 1)) % 16
-}
-
-fn lesser(a: usize, b: usize) -> usize
-    ensures { λ r. ⌜ (r ≤ a) × (r ≤ b) ⌝ }
-{
-    if a < b {
-        return a;
-    }
-    b
 }
 
 // Puts the bytes that text spells at the front of out, at most 10,000, and answers how many.

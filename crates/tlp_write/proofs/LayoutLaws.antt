@@ -25,9 +25,11 @@ use Rattle.tlp.specs.declared.packet.CompletionHeader.{CompletionHeader}
 use Rattle.tlp.specs.declared.packet.Kind.{Kind}
 use Rattle.tlp.specs.declared.packet.Kind.the-variants.{MemoryRead, MemoryWrite, IoRead, IoWrite, ConfigRead0, ConfigWrite0, ConfigRead1, ConfigWrite1, Message, MessageData, Completion, CompletionData}
 use Rattle.tlp.specs.declared.packet.Packet.{Packet}
-use Rattle.tlp_write.specs.Layout.{flag, routingIn, idOf, requestBytes, memoryAddress, configBytes, messageBytes, completionBytes, ownBytes, frontBytes, headerOf, digestOf}
+use Rattle.tlp_write.specs.Layout.{routingIn, requestBytes, memoryAddress, configBytes, messageBytes, completionBytes, ownBytes, frontBytes, headerOf, digestOf}
+use Rattle.tlp.specs.Packets.{idOf}
+use Rattle.bits.specs.Choice.{flag}
 use Rattle.tlp_write.specs.Padded.{padded}
-use Rattle.tlp_write.specs.Put.{put}
+use Rattle.bits.specs.Put.{put}
 use Rattle.tlp_write.proofs.PutLaws.{put-nothing}
 
 -- ---- addresses

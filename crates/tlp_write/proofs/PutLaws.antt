@@ -7,7 +7,7 @@ use native.Mathlib.Omega.{arith}
 use lib.ListN.{length, take, drop, length-append, length-take, length-drop, drop-of-length-le, take-append-drop}
 use lib.Seq.{take-all, take-length, drop-drop, take-append-seam, drop-append-add}
 use borrow.Rule.Slice.PartMut.{putMid}
-use Rattle.tlp_write.specs.Put.{put}
+use Rattle.bits.specs.Put.{put}
 
 -- a copy into the part of out from index at on
 pub copied : (at : ℕ) (src out last : List ℕ) → last ≡ take (length src) src ++ drop (length src) (take (length out - at) (drop at out))

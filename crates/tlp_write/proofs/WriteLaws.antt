@@ -22,7 +22,7 @@ use Rattle.tlp.specs.declared.packet.Packet.{Packet}
 use Rattle.tlp.specs.declared.packet_type.PacketType.{PacketType}
 use Rattle.tlp_write.specs.declared.WriteAnswer.the-variants.{Written, Refused}
 use Rattle.tlp_given.specs.Given.{givenRows}
-use Rattle.tlp_write.specs.Put.{put}
+use Rattle.bits.specs.Put.{put}
 use Rattle.tlp_write.specs.Layout.{headerOf, digestOf, bytesOf, sizeOf}
 use Rattle.tlp_write.specs.Write.{laterRows, writeRows, writeAnswer, writePacket, overFront, writeOut}
 use Rattle.tlp_write.proofs.PutLaws.{put-front, put-next, length-put}

@@ -3,11 +3,11 @@ use Prim.Native.Nat.{ℕ, _+_, _*_, _/_, _%_, _^_}
 use mathlib.Core.Bool.{Bool, true, false}
 use mathlib.Core.List.{List, [], _∷_, _++_}
 use lib.Dec.{ltb}
-use Rattle.bits.specs.Choice.{pick}
+use Rattle.bits.specs.Choice.{pick, flag}
 use Rattle.bits.specs.Field.{field, low}
 use Rattle.bits.specs.Word.{bytes}
 use Rattle.tlp.specs.PacketTypes.{firstByte, headerDw}
-use Rattle.tlp.specs.Packets.{addressOf, typeOf, accessOf}
+use Rattle.tlp.specs.Packets.{addressOf, idOf, typeOf, accessOf}
 use Rattle.tlp.specs.Sizes.{dataBytes, digestBytes}
 use Rattle.tlp.specs.declared.packet.Implicit.{Implicit}
 use Rattle.tlp.specs.declared.packet.Implicit.the-variants.{Root, Broadcast, Local, Gathered}
@@ -20,11 +20,6 @@ use Rattle.tlp.specs.declared.packet.CompletionHeader.{CompletionHeader}
 use Rattle.tlp.specs.declared.packet.Kind.{Kind}
 use Rattle.tlp.specs.declared.packet.Kind.the-variants.{MemoryRead, MemoryWrite, IoRead, IoWrite, ConfigRead0, ConfigWrite0, ConfigRead1, ConfigWrite1, Message, MessageData, Completion, CompletionData}
 use Rattle.tlp.specs.declared.packet.Packet.{Packet}
-
--- a flag as a bit
-abbrev pub flag : Bool → ℕ
-flag true = 1
-flag false = 0
 
 -- "000 to root, 011 broadcast, 100 local, 101 gathered. Message 001 goes by address", 010 by ID
 abbrev pub routing : Route → ℕ
@@ -49,12 +44,6 @@ routingIn r (Message m) = routing r
 routingIn r (MessageData m n) = routing r
 routingIn r (Completion c) = 0
 routingIn r (CompletionData c n) = 0
-
--- the ID of a route; 0 where it has none
-abbrev pub idOf : Route → ℕ
-idOf (Address a) = 0
-idOf (Id i) = i
-idOf (Implied w) = 0
 
 -- bytes 4 to 7 of a memory, I/O or configuration request
 abbrev pub requestBytes : Request → List ℕ

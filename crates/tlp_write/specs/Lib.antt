@@ -1,5 +1,4 @@
 pub mod Layout
 pub mod Padded
-pub mod Put
 pub mod Write
 pub mod Cases

@@ -1,5 +1,6 @@
 // The bytes of a packet's header and digest.
 use crate::put::put_at;
+use bits::choice::flag_of;
 use bits::word::bytes16;
 use bits::word::bytes32;
 use bits::word::bytes64;
@@ -13,6 +14,7 @@ use tlp::packet::Request;
 use tlp::packet::Route;
 use tlp::packet::access_of;
 use tlp::packet::address_of;
+use tlp::packet::id_of;
 use tlp::packet::type_of;
 use tlp::packet_type::first_byte;
 use tlp::packet_type::header_dw;
@@ -20,20 +22,11 @@ ghost use mathlib.Core.Path.{_≡_};
 ghost use mathlib.Core.List.{_++_};
 ghost use Prim.Native.Nat.{_+_, _≤_};
 ghost use lib.ListN.{length};
-ghost use Rattle.tlp.specs.Packets.{addressOf};
-ghost use Rattle.tlp_write.specs.Put.{put};
-ghost use Rattle.tlp_write.specs.Layout.{flag, routing, routingIn, idOf, requestBytes, memoryAddress, configBytes, messageBytes, completionBytes, ownBytes, frontBytes, headerOf, digestOf};
+ghost use Rattle.tlp.specs.Packets.{addressOf, idOf};
+ghost use Rattle.bits.specs.Put.{put};
+ghost use Rattle.tlp_write.specs.Layout.{routing, routingIn, requestBytes, memoryAddress, configBytes, messageBytes, completionBytes, ownBytes, frontBytes, headerOf, digestOf};
 ghost use Rattle.tlp_write.specs.Padded.{padded};
 ghost use Rattle.bits.specs.Word.{bytes};
-
-fn flag_of(b: bool) -> u8
-    ensures { λ r. ⌜ (r ≡ flag b) × (r ≤ 1) ⌝ }
-{
-    if b {
-        return 1;
-    }
-    0
-}
 
 fn implicit_routing(w: Implicit) -> u8
     ensures { λ n. ⌜ (n ≡ routing (Route.Implicit w)) × (n ≤ 5) ⌝ }
@@ -53,16 +46,6 @@ fn routing_of(r: Route) -> u8
         Route::Address(_) => 1,
         Route::Id(_) => 2,
         Route::Implicit(w) => implicit_routing(w),
-    }
-}
-
-fn id_of(r: Route) -> u16
-    ensures { λ i. ⌜ i ≡ idOf r ⌝ }
-{
-    match r {
-        Route::Address(_) => 0,
-        Route::Id(i) => i,
-        Route::Implicit(_) => 0,
     }
 }
 

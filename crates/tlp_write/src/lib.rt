@@ -19,7 +19,7 @@ ghost use Prim.Native.Nat.{_+_, _≤_};
 ghost use lib.ListN.{length};
 ghost use Rattle.tlp.specs.Rows.{first};
 ghost use Rattle.tlp_write.specs.Layout.{headerOf, bytesOf, sizeOf};
-ghost use Rattle.tlp_write.specs.Put.{put};
+ghost use Rattle.bits.specs.Put.{put};
 ghost use Rattle.tlp_write.specs.Write.{laterRows, writeRows, writePacket, writeOut, overFront};
 
 pub enum WriteAnswer {

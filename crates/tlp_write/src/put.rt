@@ -2,7 +2,7 @@
 ghost use mathlib.Core.Path.{_≡_};
 ghost use Prim.Native.Nat.{_+_, _≤_};
 ghost use lib.ListN.{length};
-ghost use Rattle.tlp_write.specs.Put.{put};
+ghost use Rattle.bits.specs.Put.{put};
 
 // Lays src over out from index at on, and returns the index after it.
 pub(crate) fn put_at(at: usize, src: &[u8], out: &mut [u8]) -> usize

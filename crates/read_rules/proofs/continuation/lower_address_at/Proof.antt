@@ -1,30 +1,26 @@
-use Rattle.read_rules.proofs.ContinuationLaws.{lower-laws}
+use Rattle.read_rules.proofs.ContinuationLaws.{lower-at}
 use borrow.Author.Needs.{needs}
 use Rattle.read_rules.proofs.continuation.lower_address_at.Statement.{statement}
 use Rattle.read_rules.proofs.continuation.lower_address_at.Tie as tie
 
-off-of-requires : tie.Need-off-of-requires
-off-of-requires c κs = search needs
-
-cast-result : tie.Need-cast-result
-cast-result c = search needs
+mul-result : tie.Need-mul-result
+mul-result c = search needs
 
 add-result : tie.Need-add-result
 add-result c = search needs
 
-returns : tie.Need-returns
-returns c = search lower-laws
+off-at-requires : tie.Need-off-at-requires
+off-at-requires c κs = search needs
 
-mul-result : tie.Need-mul-result
-mul-result c = search needs
+cast-result : tie.Need-cast-result
+cast-result c = search needs
 
 add-result-2 : tie.Need-add-result-2
 add-result-2 c = search needs
 
-returns-2 : tie.Need-returns-2
-returns-2 c = search lower-laws
+returns : tie.Need-returns
+returns c = search lower-at
 
 pub lower-address-at-spec : {M : Type 1} → statement M
 lower-address-at-spec =
-    tie.close
-    (tie.spec off-of-requires cast-result add-result returns mul-result add-result-2 returns-2)
+    tie.close (tie.spec mul-result add-result off-at-requires cast-result add-result-2 returns)

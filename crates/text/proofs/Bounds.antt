@@ -1,0 +1,119 @@
+-- What callers may rely on: how large an answer is, and that an output keeps its length.
+use Prim.Native.Nat.{ℕ, suc, _+_, _^_, _≤_, _<_, zero-le}
+use mathlib.Core.Path.{_≡_, refl, sym, ap, _∙_}
+use mathlib.Core.Bool.{Bool, true, false, _&&_, not}
+use mathlib.Core.Logic.{⊎-elim}
+use mathlib.Core.List.{List, [], _∷_}
+use mathlib.Core.Option.{Option, some, none}
+use native.Mathlib.Omega.{arith}
+use lib.Dec.{leb, ltb, eqb}
+use lib.ListN.{length, drop, length-append, length-take, length-drop}
+use borrow.Author.Tests.{leb-true, ltb-true, le-leb, lt-leb}
+use Rattle.bits.specs.Choice.{pick}
+use Rattle.bits.specs.Put.{put}
+use Rattle.text.specs.Laid.{fits, laid, after}
+use Rattle.text.specs.Digit.{allDigits}
+use Rattle.text.specs.Number.{value, plain, plainly, empty, numberIn}
+use Rattle.text.specs.Hex.{hexNumber, spelledAnswer}
+use Rattle.text.specs.Decimal.{decimalNumber}
+use Rattle.text.specs.Words.{wordLength, wordEnd, startsWith, valueAt}
+use Rattle.text.specs.declared.number.Parsed.{Parsed}
+use Rattle.text.specs.declared.number.Parsed.the-variants.{Number, Bad}
+use Rattle.text.specs.declared.hex.Spelled.{Spelled}
+use Rattle.text.specs.declared.hex.Spelled.the-variants.{Bytes, Bad as NoBytes}
+use Rattle.text.specs.declared.words.Value.{Value}
+use Rattle.text.specs.declared.words.Value.the-variants.{Found, Missing}
+use Rattle.text.proofs.Order.{lt-or-le, and-right}
+use Rattle.text.proofs.HexLaws.{value-lt}
+use Rattle.text.proofs.WordLaws.{starts-le}
+
+-- ---- an answer that is picked by a test
+
+-- the test held
+picked : {A : Type 0} (bad a : A) (t : Bool) (r : A) → pick t a bad ≡ r → (bad ≡ r → ⊥) → (t ≡ true) × (a ≡ r)
+picked bad a true r e n = (refl, e)
+picked bad a false r e n = absurd (n e)
+
+number-good : (n : ℕ) → Bad ≡ Number n → ⊥
+number-good n e = let z : _≡_ {A = ℕ} 0 1 = cc in omega arith
+
+number-is : (v n : ℕ) → Number v ≡ Number n → v ≡ n
+number-is v n e = cc
+
+-- ---- numbers
+
+plainly-is : (s : List ℕ) (p : Parsed) (n : ℕ) → plainly s p ≡ Number n → p ≡ Number n
+unfolding plainly
+plainly-is s p n e = picked Bad p (plain s) (Number n) e (number-good n) .1
+
+-- a number read as decimal is below k, where most is
+pub decimal-lt : (most n k : ℕ) (s : List ℕ) (p : Parsed) → p ≡ decimalNumber most s → p ≡ Number n → ltb most k ≡ true → n < k
+unfolding numberIn
+decimal-lt most n k s p d e h =
+    let f = picked Bad (Number (value 10 s)) (not (empty s) && (allDigits 10 s && leb (value 10 s) most)) (Number n) (plainly-is s (numberIn 10 most s) n (sym d ∙ e)) (number-good n) in
+    omega (arith, number-is (value 10 s) n (f .1), leb-true (value 10 s) most (and-right (allDigits 10 s) _ (and-right (not (empty s)) _ (f .0))), ltb-true most k h)
+
+-- a number of w hexadecimal digits is below k, where 16 ^ w is not above it
+pub hex-lt : (n w k : ℕ) (s : List ℕ) (p : Parsed) → p ≡ hexNumber s → p ≡ Number n → length s ≡ w → leb (16 ^ w) k ≡ true → n < k
+unfolding hexNumber
+hex-lt n w k s p d e l h =
+    let f = picked Bad (Number (value 16 s)) (not (empty s) && (leb (length s) 16 && allDigits 16 s)) (Number n) (sym d ∙ e) (number-good n) in
+    omega (arith, number-is (value 16 s) n (f .1), ap (λ (m : ℕ). 16 ^ m) l, value-lt 16 0 s (and-right (leb (length s) 16) _ (and-right (not (empty s)) _ (f .0))), leb-true (16 ^ w) k h)
+
+-- ---- words
+
+word-le : (s : List ℕ) → wordLength s ≤ length s
+unfolding wordLength
+word-le [] = zero-le
+word-le (b ∷ s) = word-le-by (eqb b 32) (wordLength s) (length s) (word-le s)
+  where
+    word-le-by : (t : Bool) (m n : ℕ) → m ≤ n → pick t 0 (suc m) ≤ suc n
+    word-le-by true m n h = zero-le
+    word-le-by false m n h = omega arith
+
+pub end-le : (s : List ℕ) (at : ℕ) → wordEnd s at ≤ length s
+unfolding wordEnd
+end-le s at = omega (arith, word-le (drop at s), length-drop at s)
+
+found-good : (from to : ℕ) → Missing ≡ Found from to → ⊥
+found-good from to e = let z : _≡_ {A = ℕ} 0 1 = cc in omega arith
+
+pub found-bounds : (s key : List ℕ) (at from to : ℕ) (v : Value) → v ≡ valueAt s at key → v ≡ Found from to → (at + length key ≡ from) × ((from ≤ to) × (to ≤ length s))
+unfolding valueAt wordEnd
+found-bounds s key at from to v d e =
+    let f = picked Missing (Found (at + length key) (wordEnd s (at + length key))) (startsWith s at key) (Found from to) (sym d ∙ e) (found-good from to) in
+    let l : at + length key ≤ length s = starts-le s key at (startsWith s at key) refl (rw (f .0)) in
+    let a : at + length key ≡ from = cc (f .1) in
+    let z : wordEnd s (at + length key) ≡ to = cc (f .1) in
+    (a, (omega arith, omega (arith, end-le s (at + length key))))
+
+-- ---- outputs
+
+pub spelled-le : (o : Option (List ℕ)) (out : List ℕ) (n : ℕ) (r : Spelled) → r ≡ spelledAnswer o out → r ≡ Bytes n → n ≤ length out
+unfolding spelledAnswer
+spelled-le none out n r d e = let z : _≡_ {A = ℕ} 0 1 = cc in omega arith
+spelled-le (some bytes) out n r d e =
+    let f = picked NoBytes (Bytes (length bytes)) (fits 0 bytes out) (Bytes n) (sym d ∙ e) (λ (b : NoBytes ≡ Bytes n). let z : _≡_ {A = ℕ} 0 1 = cc in omega arith) in
+    let l : length bytes ≡ n = cc (f .1) in
+    omega (arith, leb-true (0 + length bytes) (length out) (f .0))
+
+length-put : (at : ℕ) (src out : List ℕ) → at + length src ≤ length out → length (put at src out) ≡ length out
+unfolding put
+length-put at src out h = simp (length-append, length-drop, length-take) (omega arith)
+
+module _ (at : ℕ) (src out : List ℕ) where
+  pub length-laid : length (laid at src out) ≡ length out
+  unfolding laid
+  length-laid =
+      ⊎-elim
+      (λ (h : length out < at + length src). rw (lt-leb (at + length src) (length out) h))
+      (λ (h : at + length src ≤ length out). rw (le-leb (at + length src) (length out) h) (length-put at src out h))
+      (lt-or-le (length out) (at + length src))
+
+  pub after-le : at ≤ length out → after at src out ≤ length out
+  unfolding after
+  after-le g =
+      ⊎-elim
+      (λ (h : length out < at + length src). rw (lt-leb (at + length src) (length out) h) g)
+      (λ (h : at + length src ≤ length out). rw (le-leb (at + length src) (length out) h) h)
+      (lt-or-le (length out) (at + length src))

@@ -1,0 +1,85 @@
+-- Digits as letters and as values.
+use Prim.Native.Nat.{ℕ, _+_, _-_, _%_, _≤_, _<_}
+use mathlib.Core.Path.{_≡_, sym, _∙_}
+use mathlib.Core.Bool.{Bool, true, false, _&&_}
+use mathlib.Core.Logic.{⊎-elim}
+use mathlib.Core.List.{List}
+use native.Mathlib.Numerals.{add-one}
+use native.Mathlib.Omega.{arith}
+use lib.Dec.{ltb}
+use lib.ListN.{length, getD, drop, drop-of-length-le}
+use lib.Seq.{drop-cons}
+use borrow.Author.Tests.{lt-ltb, le-ltb, le-leb, lt-leb, ltb-true}
+use Rattle.text.proofs.Order.{lt-or-le, and-left, and-right}
+use Rattle.text.specs.Digit.{hexValue, hexDigit, allDigits}
+
+-- one law for each return
+
+module _ (b : ℕ) where
+  pub value-below : b < 48 → 16 ≡ hexValue b
+  unfolding hexValue
+  value-below h = rw (lt-leb 48 b h, lt-leb 97 b (omega arith))
+
+  pub value-number : 48 ≤ b → b ≤ 57 → b - 48 ≡ hexValue b
+  unfolding hexValue
+  value-number h k = rw (le-leb 48 b h, le-leb b 57 k)
+
+  pub value-between : 48 ≤ b → 57 < b → b < 97 → 16 ≡ hexValue b
+  unfolding hexValue
+  value-between g h k = rw (le-leb 48 b g, lt-leb b 57 h, lt-leb 97 b k)
+
+  pub value-letter : 57 < b → 97 ≤ b → b ≤ 102 → b - 97 + 10 ≡ hexValue b
+  unfolding hexValue
+  value-letter g h k = rw (le-leb 48 b (omega arith), lt-leb b 57 g, le-leb 97 b h, le-leb b 102 k)
+
+  pub value-above : 102 < b → 16 ≡ hexValue b
+  unfolding hexValue
+  value-above h = rw (le-leb 48 b (omega arith), lt-leb b 57 (omega arith), le-leb 97 b (omega arith), lt-leb b 102 h)
+
+module _ (n : ℕ) where
+  pub digit-number : n % 16 < 10 → 48 + n % 16 ≡ hexDigit n
+  unfolding hexDigit
+  digit-number h = rw (lt-ltb (n % 16) 10 h)
+
+  pub digit-letter : 10 ≤ n % 16 → 97 + (n % 16 - 10) ≡ hexDigit n
+  unfolding hexDigit
+  digit-letter h = rw (le-ltb (n % 16) 10 h)
+
+pub ruleset digit-laws = (digit-number, digit-letter)
+
+-- the value of a digit's letter
+pub value-digit : (n : ℕ) → hexValue (hexDigit n) ≡ n % 16
+value-digit n =
+    ⊎-elim
+    (λ (h : n % 16 < 10). rw (← digit-number n h, ← value-number (48 + n % 16) (omega arith) (omega arith)) (omega arith))
+    (λ (h : 10 ≤ n % 16). rw (← digit-letter n h, ← value-letter (97 + (n % 16 - 10)) (omega arith) (omega arith) (omega arith)) (omega arith))
+    (lt-or-le (n % 16) 10)
+
+-- the first digit of those from index i on
+
+module _ (base i : ℕ) (s : List ℕ) where
+  pub digits-first : i < length s → allDigits base (drop i s) ≡ (ltb (hexValue (getD s i 0)) base && allDigits base (drop (i + 1) s))
+  unfolding allDigits
+  digits-first h = rw (drop-cons s i 0 h, add-one i)
+
+  pub digit-small : i < length s → allDigits base (drop i s) ≡ true → hexValue (getD s i 0) < base
+  digit-small h a = ltb-true _ _ (and-left _ _ (sym (digits-first h) ∙ a))
+
+  pub digits-rest : i < length s → allDigits base (drop i s) ≡ true → allDigits base (drop (i + 1) s) ≡ true
+  digits-rest h a = and-right (ltb (hexValue (getD s i 0)) base) _ (sym (digits-first h) ∙ a)
+
+-- one law for each place of a scan, whose answer is t
+
+module _ (base i : ℕ) (s : List ℕ) (t : Bool) (a : allDigits base (drop i s) ≡ t) where
+  pub scan-done : length s ≤ i → true ≡ t
+  unfolding allDigits
+  scan-done h = rw (drop-of-length-le s h) at a
+
+  module _ (d : ℕ) (e : d ≡ hexValue (getD s i 0)) (h : i < length s) where
+    pub scan-bad : base ≤ d → false ≡ t
+    scan-bad l = rw (digits-first base i s h, ← e, le-ltb d base l) at a
+
+    pub scan-next : d < base → allDigits base (drop (i + 1) s) ≡ t
+    scan-next l = rw (digits-first base i s h, ← e, lt-ltb d base l) at a
+
+pub ruleset scan-laws = (scan-done, scan-bad, scan-next)

@@ -1,0 +1,173 @@
+-- Hexadecimal: one law for each place of the code.
+use Prim.Native.Nat.{ℕ, _+_, _*_, _/_, _%_, _^_, _≤_, _<_}
+use mathlib.Core.Path.{_≡_, refl, sym, _∙_}
+use mathlib.Core.Bool.{Bool, true, false, _&&_, not, and-false}
+use mathlib.Core.List.{List, [], _∷_}
+use mathlib.Core.Option.{Option, some, none}
+use native.Mathlib.Nat.{lt-of-lt-of-le, mul-le-mul-right, pow-zero, pow-suc, pow-le-pow-right, mul-comm, mul-assoc, zero-lt-suc}
+use native.Mathlib.Numerals.{add-one}
+use native.Mathlib.Omega.{arith}
+use lib.Dec.{leb, ltb, eqb}
+use lib.ListN.{length, getD, drop, set, length-set, drop-of-length-le}
+use lib.Seq.{drop-cons}
+use borrow.Author.Tests.{le-leb, lt-leb, ltb-true, eq-eqb, ne-eqb, not-true, not-false}
+use Rattle.text.specs.Digit.{hexValue, hexDigit, allDigits}
+use Rattle.bits.specs.Put.{put}
+use Rattle.text.specs.Laid.{laid}
+use Rattle.text.specs.Number.{valueFrom, value, empty, numberIn}
+use Rattle.text.specs.Hex.{hexNumber, pairs, bytesSpelled, spelledAnswer, spelledOver, hexText}
+use Rattle.text.specs.declared.number.Parsed.{Parsed}
+use Rattle.text.specs.declared.number.Parsed.the-variants.{Bad}
+use Rattle.text.specs.declared.hex.Spelled.the-variants.{Bytes, Bad as NoBytes}
+use Rattle.text.proofs.Order.{and-left, and-right}
+use Rattle.text.proofs.PutLaws.{put-first, put-done}
+use Rattle.text.proofs.DigitLaws.{digit-small, digits-rest}
+
+-- ---- numbers
+
+-- k digits after v stay below (v + 1) * base ^ k
+pub value-lt : (base v : ℕ) (s : List ℕ) → allDigits base s ≡ true → valueFrom base v s < (v + 1) * base ^ length s
+unfolding valueFrom allDigits
+value-lt base v [] a = rw (pow-zero base) (omega arith)
+value-lt base v (b ∷ s) a =
+    let d : hexValue b < base = ltb-true (hexValue b) base (and-left (ltb (hexValue b) base) (allDigits base s) a) in
+    let h : valueFrom base (v * base + hexValue b) s < (v * base + hexValue b + 1) * base ^ length s = value-lt base (v * base + hexValue b) s (and-right (ltb (hexValue b) base) (allDigits base s) a) in
+    let k : (v * base + hexValue b + 1) * base ^ length s ≤ (v + 1) * base * base ^ length s = mul-le-mul-right (base ^ length s) (omega arith) in
+    lt-of-lt-of-le h (rw (pow-suc base (length s), mul-comm (base ^ length s) base, ← mul-assoc (v + 1) base (base ^ length s)) k)
+
+fits-or-not : (t : Bool) (s : List ℕ) → allDigits 16 s ≡ t → length s ≤ 16 → (allDigits 16 s && leb (value 16 s) 18446744073709551615) ≡ allDigits 16 s
+fits-or-not true s a l =
+    let h : value 16 s < 16 ^ 16 = lt-of-lt-of-le (value-lt 16 0 s a) (omega (arith, pow-le-pow-right (zero-lt-suc 15) l)) in
+    rw (le-leb (value 16 s) 18446744073709551615 (omega arith), a)
+fits-or-not false s a l = rw a
+
+module _ (s : List ℕ) where
+  pub hex-long : 16 < length s → Bad ≡ hexNumber s
+  unfolding hexNumber
+  hex-long h = rw (lt-leb (length s) 16 h, and-false (not (empty s)))
+
+  pub hex-short : (r : Parsed) → length s ≤ 16 → r ≡ numberIn 16 18446744073709551615 s → r ≡ hexNumber s
+  unfolding hexNumber numberIn
+  hex-short r h e = e ∙ rw (le-leb (length s) 16 h, fits-or-not (allDigits 16 s) s refl h)
+
+pub ruleset hex-laws = (hex-long, hex-short)
+
+-- ---- printed bytes
+
+pub length-text : (s : List ℕ) → 2 * length s ≡ length (hexText s)
+unfolding hexText
+length-text [] = refl
+length-text (b ∷ s) = omega (arith, length-text s)
+
+-- the code has laid the first i bytes' digits, up to index to
+
+module _ (at to i : ℕ) (s out whole : List ℕ) (q : put to (hexText (drop i s)) out ≡ whole) where
+  pub text-done : length s ≤ i → out ≡ whole
+  unfolding hexText
+  text-done l = sym (put-done to out) ∙ (rw (drop-of-length-le s l) at q)
+
+  pub text-next : (d e : ℕ) (out₀ : List ℕ) → d ≡ hexDigit (getD s i 0 / 16) → e ≡ hexDigit (getD s i 0)
+      → i < length s → to ≡ at + 2 * i → at + 2 * length s ≤ length out₀ → length out ≡ length out₀
+      → put (to + 2) (hexText (drop (i + 1) s)) (set (set out to d) (to + 1) e) ≡ whole
+  unfolding hexText
+  text-next d e out₀ f g h t l z =
+      let r : to + 2 ≡ to + 1 + 1 = omega arith in
+      let k : hexText (drop i s) ≡ d ∷ e ∷ hexText (drop (i + 1) s) = rw (drop-cons s i 0 h, add-one i, f, g) in
+      rw (
+        r,
+        put-first (to + 1) e (hexText (drop (i + 1) s)) (set out to d) (simp length-set (omega arith)),
+        put-first to d (e ∷ hexText (drop (i + 1) s)) out (omega arith),
+        ← k,
+      )
+      q
+
+pub ruleset text-laws = (text-done, text-next)
+
+-- ---- bytes from digits
+
+pub length-pairs : (s : List ℕ) → length s / 2 ≡ length (pairs s)
+unfolding pairs
+length-pairs [] = refl
+length-pairs (a ∷ []) = refl
+length-pairs (a ∷ b ∷ s) = omega (arith, length-pairs s)
+
+-- the code has laid i bytes, and the digits from index 2 * i on are good
+
+module _ (n i a b : ℕ) (s out : List ℕ) (e : a ≡ hexValue (getD s (2 * i) 0)) (h : i < n) (l : length s ≡ 2 * n) (g : allDigits 16 (drop (2 * i) s) ≡ true) where
+  pub high-fits : a * 16 < 2 ^ 8
+  high-fits = omega (arith, digit-small 16 (2 * i) s (omega arith) g)
+
+  module _ (f : b ≡ hexValue (getD s (2 * i + 1) 0)) where
+    pub pair-fits : a * 16 + b < 2 ^ 8
+    pair-fits = omega (arith, digit-small 16 (2 * i) s (omega arith) g, digit-small 16 (2 * i + 1) s (omega arith) (digits-rest 16 (2 * i) s (omega arith) g))
+
+    pub pair-next : (whole out₀ : List ℕ) → n ≤ length out₀ → length out ≡ length out₀ → put i (pairs (drop (2 * i) s)) out ≡ whole
+        → put (i + 1) (pairs (drop (2 * (i + 1)) s)) (set out i (a * 16 + b)) ≡ whole
+    unfolding pairs
+    pair-next whole out₀ m z q =
+        let r : 2 * (i + 1) ≡ 2 * i + 1 + 1 = omega arith in
+        let k : pairs (drop (2 * i) s) ≡ (a * 16 + b) ∷ pairs (drop (2 * i + 1 + 1) s) = rw (drop-cons s (2 * i) 0 (omega arith), ← add-one (2 * i), drop-cons s (2 * i + 1) 0 (omega arith), ← add-one (2 * i + 1), e, f) in
+        rw (r, put-first i (a * 16 + b) (pairs (drop (2 * i + 1 + 1) s)) out (omega arith), ← k) q
+
+pub digits-next : (n i : ℕ) (s : List ℕ) → i < n → length s ≡ 2 * n → allDigits 16 (drop (2 * i) s) ≡ true → allDigits 16 (drop (2 * (i + 1)) s) ≡ true
+digits-next n i s h l g =
+    let r : 2 * (i + 1) ≡ 2 * i + 1 + 1 = omega arith in
+    rw r (digits-rest 16 (2 * i + 1) s (omega arith) (digits-rest 16 (2 * i) s (omega arith) g))
+
+pub pair-done : (n i : ℕ) (s out whole : List ℕ) → n ≤ i → length s ≡ 2 * n → put i (pairs (drop (2 * i) s)) out ≡ whole → out ≡ whole
+unfolding pairs
+pair-done n i s out whole h l q = sym (put-done i out) ∙ (rw (drop-of-length-le s {i = 2 * i} (omega arith)) at q)
+
+pub ruleset pair-laws = (high-fits, pair-fits, pair-next, digits-next, pair-done)
+
+-- what is answered, and what out holds then
+
+module _ (s : List ℕ) where
+  pub spells-odd : (length s % 2 ≡ 0 → ⊥) → bytesSpelled s ≡ none
+  unfolding bytesSpelled
+  spells-odd h = rw (ne-eqb (length s % 2) 0 h)
+
+  module _ (r : Bool) (e : r ≡ allDigits 16 s) where
+    pub spells-bad : not r ≡ true → bytesSpelled s ≡ none
+    unfolding bytesSpelled
+    spells-bad h = rw (← e, not-true r h, and-false (eqb (length s % 2) 0))
+
+    pub spells-good : length s % 2 ≡ 0 → not r ≡ false → bytesSpelled s ≡ some (pairs s)
+    unfolding bytesSpelled
+    spells-good z h = rw (eq-eqb (length s % 2) 0 z, ← e, not-false r h)
+
+module _ (o : Option (List ℕ)) (out : List ℕ) where
+  pub answer-none : o ≡ none → NoBytes ≡ spelledAnswer o out
+  unfolding spelledAnswer
+  answer-none h = rw h
+
+  pub over-none : o ≡ none → out ≡ spelledOver o out
+  unfolding spelledOver
+  over-none h = rw h
+
+  module _ (s : List ℕ) (e : o ≡ some (pairs s)) where
+    pub answer-short : length out < length s / 2 → NoBytes ≡ spelledAnswer o out
+    unfolding spelledAnswer
+    answer-short h = rw (e, lt-leb (0 + length (pairs s)) (length out) (omega (arith, length-pairs s)))
+
+    pub over-short : length out < length s / 2 → out ≡ spelledOver o out
+    unfolding spelledOver laid
+    over-short h = rw (e, lt-leb (0 + length (pairs s)) (length out) (omega (arith, length-pairs s)))
+
+    module _ (h : length s / 2 ≤ length out) where
+      pub answer-whole : Bytes (length s / 2) ≡ spelledAnswer o out
+      unfolding spelledAnswer
+      answer-whole = rw (e, le-leb (0 + length (pairs s)) (length out) (omega (arith, length-pairs s)), length-pairs s)
+
+      pub over-whole : (last : List ℕ) → last ≡ put 0 (pairs s) out → last ≡ spelledOver o out
+      unfolding spelledOver laid
+      over-whole last q = rw (e, le-leb (0 + length (pairs s)) (length out) (omega (arith, length-pairs s))) q
+
+pub ruleset spelled-laws = (spells-odd, spells-bad, spells-good, answer-none, over-none, answer-short, over-short, answer-whole, over-whole)
+
+-- what the loop asks of s
+pub even-half : (s : List ℕ) → length s % 2 ≡ 0 → length s ≡ 2 * (length s / 2)
+even-half s h = omega arith
+
+pub all-good : (r : Bool) (s : List ℕ) → r ≡ allDigits 16 s → not r ≡ false → allDigits 16 s ≡ true
+all-good r s e h = sym e ∙ not-false r h

@@ -1,0 +1,89 @@
+use Rattle.text.proofs.HexLaws.{pair-laws}
+use mathlib.Core.Path.{_≡_}
+use mathlib.Core.Bool.{true}
+use Prim.Native.Nat.{_-_, _*_, _≤_}
+use native.Mathlib.Omega.{arith}
+use lib.ListN.{length, drop, length-set}
+use Rattle.text.specs.Digit.{allDigits}
+use Rattle.text.specs.Hex.{pairs}
+use Rattle.bits.specs.Put.{put}
+use borrow.Author.Needs.{needs}
+use Rattle.text.proofs.hex.lay_bytes.Statement.{statement}
+use Rattle.text.proofs.hex.lay_bytes.Tie as tie
+
+abbrev Inv-loop : tie.InvT-loop
+Inv-loop s n out₀ i₀ out i = (i ≤ n) × ((length out ≡ length out₀) × ((allDigits 16 (drop (2 * i) s) ≡ true) × (put i (pairs (drop (2 * i) s)) out ≡ put 0 (pairs s) out₀)))
+
+abbrev μ-loop : tie.MeasureT-loop
+μ-loop s n out₀ i₀ out i = n - i
+
+loop-holds : tie.Need-loop-holds Inv-loop μ-loop
+loop-holds c = search needs
+
+mul-hex-value : tie.Need-mul-hex-value Inv-loop μ-loop
+mul-hex-value c = search needs
+
+shared-slice-read-hex-value : tie.Need-shared-slice-read-hex-value Inv-loop μ-loop
+shared-slice-read-hex-value c = search needs
+
+hex-value-requires : tie.Need-hex-value-requires Inv-loop μ-loop
+hex-value-requires c κs = search needs
+
+mul-out : tie.Need-mul-out Inv-loop μ-loop
+mul-out c = record { fits = search pair-laws }
+
+mul-hex-value-2 : tie.Need-mul-hex-value-2 Inv-loop μ-loop
+mul-hex-value-2 c = search needs
+
+add-hex-value : tie.Need-add-hex-value Inv-loop μ-loop
+add-hex-value c = search needs
+
+shared-slice-read-hex-value-2 : tie.Need-shared-slice-read-hex-value-2 Inv-loop μ-loop
+shared-slice-read-hex-value-2 c = search needs
+
+hex-value-requires-2 : tie.Need-hex-value-requires-2 Inv-loop μ-loop
+hex-value-requires-2 c κs = search needs
+
+add-out : tie.Need-add-out Inv-loop μ-loop
+add-out c = record { fits = search pair-laws }
+
+slice-write-out : tie.Need-slice-write-out Inv-loop μ-loop
+slice-write-out c = search needs
+
+add-i : tie.Need-add-i Inv-loop μ-loop
+add-i c = search needs
+
+loop-less : tie.Need-loop-less Inv-loop μ-loop
+loop-less c = search needs
+
+loop-again : tie.Need-loop-again Inv-loop μ-loop
+loop-again c = (search needs, (simp length-set (omega arith), (search pair-laws, search pair-laws)))
+
+same-length : tie.Need-same-length Inv-loop μ-loop
+same-length c = search needs
+
+returns : tie.Need-returns Inv-loop μ-loop
+returns c = search pair-laws
+
+pub lay-bytes-spec : {M : Type 1} → statement M
+lay-bytes-spec =
+    tie.close
+    (tie.spec
+    Inv-loop
+    μ-loop
+    loop-holds
+    mul-hex-value
+    shared-slice-read-hex-value
+    hex-value-requires
+    mul-out
+    mul-hex-value-2
+    add-hex-value
+    shared-slice-read-hex-value-2
+    hex-value-requires-2
+    add-out
+    slice-write-out
+    add-i
+    loop-less
+    loop-again
+    same-length
+    returns)

@@ -1,0 +1,51 @@
+-- Numbers and bytes in hexadecimal.
+use Prim.Native.Nat.{ℕ, _+_, _*_, _/_, _%_}
+use mathlib.Core.Bool.{_&&_, not}
+use mathlib.Core.List.{List, [], _∷_}
+use mathlib.Core.Option.{Option, some, none}
+use lib.Dec.{leb, eqb}
+use lib.ListN.{length}
+use Rattle.bits.specs.Choice.{pick}
+use Rattle.text.specs.Laid.{fits, laid}
+use Rattle.text.specs.Digit.{hexValue, hexDigit, allDigits}
+use Rattle.text.specs.Number.{value, plainly, empty, plainText}
+use Rattle.text.specs.declared.number.Parsed.{Parsed}
+use Rattle.text.specs.declared.number.Parsed.the-variants.{Number, Bad}
+use Rattle.text.specs.declared.hex.Spelled.{Spelled}
+use Rattle.text.specs.declared.hex.Spelled.the-variants.{Bytes, Bad as NoBytes}
+
+-- the number of 1 to 16 digits, which 64 bits hold
+unfoldable pub hexNumber : List ℕ → Parsed
+hexNumber s = pick (not (empty s) && (leb (length s) 16 && allDigits 16 s)) (Number (value 16 s)) Bad
+
+-- "lower-case hex without leading zeros (0 for zero)"
+abbrev pub hexPlain : List ℕ → Parsed
+hexPlain s = plainly s (hexNumber s)
+
+abbrev pub hexPlainText : ℕ → List ℕ
+hexPlainText n = plainText 16 n
+
+-- a byte for every two digits
+unfoldable pub pairs : List ℕ → List ℕ
+pairs [] = []
+pairs (a ∷ []) = []
+pairs (a ∷ b ∷ s) = (hexValue a * 16 + hexValue b) ∷ pairs s
+
+-- "any even number of lower-case hex digits", as bytes
+unfoldable pub bytesSpelled : List ℕ → Option (List ℕ)
+bytesSpelled s = pick (eqb (length s % 2) 0 && allDigits 16 s) (some (pairs s)) none
+
+-- how many bytes go over the front of out, where there are any and they fit
+unfoldable pub spelledAnswer : Option (List ℕ) → List ℕ → Spelled
+spelledAnswer none out = NoBytes
+spelledAnswer (some bytes) out = pick (fits 0 bytes out) (Bytes (length bytes)) NoBytes
+
+-- the output afterwards, unchanged where the answer is Bad
+unfoldable pub spelledOver : Option (List ℕ) → List ℕ → List ℕ
+spelledOver none out = out
+spelledOver (some bytes) out = laid 0 bytes out
+
+-- two digits for every byte
+unfoldable pub hexText : List ℕ → List ℕ
+hexText [] = []
+hexText (b ∷ s) = hexDigit (b / 16) ∷ hexDigit b ∷ hexText s

@@ -1,0 +1,156 @@
+// Hexadecimal in lower case: digits, numbers and bytes.
+use crate::number::Parsed;
+use crate::number::digit_count;
+use crate::number::is_plain;
+use crate::number::number_in;
+use crate::number::put_digits;
+use crate::output::room;
+ghost use mathlib.Core.Path.{_≡_};
+ghost use mathlib.Core.Bool.{true};
+ghost use Prim.Native.Nat.{_+_, _*_, _≤_};
+ghost use lib.ListN.{length};
+ghost use Rattle.text.specs.Digit.{hexValue, hexDigit, allDigits};
+ghost use Rattle.bits.specs.Put.{put};
+ghost use Rattle.text.specs.Laid.{laid, after};
+ghost use Rattle.text.specs.Number.{digits};
+ghost use Rattle.text.specs.Hex.{hexNumber, hexPlain, hexPlainText, pairs, bytesSpelled, spelledAnswer, spelledOver, hexText};
+
+// The value of a digit, 16 for a byte that is none. No other function looks at letters.
+pub fn hex_value(b: u8) -> u8
+    ensures { λ r. ⌜ r ≡ hexValue b ⌝ }
+{
+    if b < b'0' {
+        return 16;
+    }
+    if b <= b'9' {
+        return b - b'0';
+    }
+    if b < b'a' {
+        return 16;
+    }
+    if b <= b'f' {
+        return b - b'a' + 10;
+    }
+    16
+}
+
+// The letter of n % 16.
+pub fn hex_digit(n: u8) -> u8
+    ensures { λ r. ⌜ r ≡ hexDigit n ⌝ }
+{
+    let d = n % 16;
+    if d < 10 {
+        return b'0' + d;
+    }
+    b'a' + (d - 10)
+}
+
+// The number that 1 to 16 digits spell.
+pub fn hex_number(s: &[u8]) -> Parsed
+    ensures { λ r. ⌜ r ≡ hexNumber (now (s .entry)) ⌝ }
+{
+    if 16 < s.len() {
+        return Parsed::Bad;
+    }
+    number_in(s, 16, 18446744073709551615)
+}
+
+// The same without leading zeros.
+pub fn hex_plain(s: &[u8]) -> Parsed
+    ensures { λ r. ⌜ r ≡ hexPlain (now (s .entry)) ⌝ }
+{
+    if !is_plain(s) {
+        return Parsed::Bad;
+    }
+    hex_number(s)
+}
+
+// Whether every byte is a digit.
+pub fn hex_only(s: &[u8]) -> bool
+    ensures { λ r. ⌜ r ≡ allDigits 16 (now (s .entry)) ⌝ }
+{
+    let mut i: usize = 0;
+    while i < s.len() {
+        if 16 <= hex_value(s[i]) {
+            return false;
+        }
+        i += 1;
+    }
+    true
+}
+
+// How many bytes were spelled.
+pub enum Spelled {
+    Bytes(usize),
+    Bad,
+}
+
+fn lay_bytes(s: &[u8], n: usize, out: &mut [u8])
+    requires { ⌜ (length (now s) ≡ 2 * n) × ((n ≤ length (now out)) × (allDigits 16 (now s) ≡ true)) ⌝ }
+    ensures { λ _. ⌜ now (out .exit) ≡ put 0 (pairs (now (s .entry))) (now (out .entry)) ⌝ }
+{
+    let mut i: usize = 0;
+    while i < n {
+        out[i] = hex_value(s[2 * i]) * 16 + hex_value(s[2 * i + 1]);
+        i += 1;
+    }
+}
+
+// The bytes that s spells, over the front of out; where it spells none, or they do not fit, out stays as it was.
+pub fn hex_bytes(s: &[u8], out: &mut [u8]) -> Spelled
+    ensures { λ r. ⌜ (r ≡ spelledAnswer (bytesSpelled (now (s .entry))) (now (out .entry))) × (now (out .exit) ≡ spelledOver (bytesSpelled (now (s .entry))) (now (out .entry))) ⌝ }
+{
+    if s.len() % 2 != 0 {
+        return Spelled::Bad;
+    }
+    if !hex_only(s) {
+        return Spelled::Bad;
+    }
+    let n = s.len() / 2;
+    if out.len() < n {
+        return Spelled::Bad;
+    }
+    lay_bytes(s, n, out);
+    Spelled::Bytes(n)
+}
+
+fn lay_hex(s: &[u8], at: usize, out: &mut [u8]) -> usize
+    requires { ⌜ at + 2 * length (now s) ≤ length (now out) ⌝ }
+    ensures { λ r. ⌜ (r ≡ at + 2 * length (now (s .entry))) × (now (out .exit) ≡ put at (hexText (now (s .entry))) (now (out .entry))) ⌝ }
+{
+    let mut i: usize = 0;
+    let mut to = at;
+    while i < s.len() {
+        let b = s[i];
+        out[to] = hex_digit(b / 16);
+        out[to + 1] = hex_digit(b);
+        to += 2;
+        i += 1;
+    }
+    to
+}
+
+// Two digits for each byte of s, laid into out from index at on, and the index after them; at and nothing laid where they do not fit.
+pub fn put_hex(s: &[u8], at: usize, out: &mut [u8]) -> usize
+    ensures { λ r. ⌜ (r ≡ after at (hexText (now (s .entry))) (now (out .entry))) × (now (out .exit) ≡ laid at (hexText (now (s .entry))) (now (out .entry))) ⌝ }
+{
+    if !room(at, 2 * s.len(), out.len()) {
+        return at;
+    }
+    lay_hex(s, at, out)
+}
+
+// The w lowest digits of n.
+pub fn put_hex_fixed(n: u64, w: usize, at: usize, out: &mut [u8]) -> usize
+    ensures { λ r. ⌜ (r ≡ after at (digits 16 w n) (now (out .entry))) × (now (out .exit) ≡ laid at (digits 16 w n) (now (out .entry))) ⌝ }
+{
+    put_digits(n, 16, w, at, out)
+}
+
+// The digits of n without leading zeros.
+pub fn put_hex_plain(n: u64, at: usize, out: &mut [u8]) -> usize
+    ensures { λ r. ⌜ (r ≡ after at (hexPlainText n) (now (out .entry))) × (now (out .exit) ≡ laid at (hexPlainText n) (now (out .entry))) ⌝ }
+{
+    let w = digit_count(n, 16);
+    put_digits(n, 16, w, at, out)
+}

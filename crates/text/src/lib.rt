@@ -1,0 +1,6 @@
+// Numbers and words in lines of text, parsed and printed, for any input.
+pub mod decimal;
+pub mod hex;
+pub mod number;
+pub mod output;
+pub mod words;
