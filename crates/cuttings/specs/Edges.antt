@@ -33,7 +33,7 @@ use Rattle.read_rules.specs.Windows.{holdsWindow}
 use Rattle.read_rules.specs.Continuations.{byteCountAt, lowerAddressAt, cutAllowed, legal, statusBad, differs}
 use Rattle.read_store.specs.Stores.{stored}
 use Rattle.read_slots.specs.declared.State.the-variants.{Open}
-use Rattle.reads.specs.TakeCall.{pieceRows}
+use Rattle.read_answers.specs.Takes.{pieceRows}
 use Rattle.cuttings.specs.Rows.{rowsFrom, cuttings}
 
 -- what an edge says of its read

@@ -4,8 +4,8 @@ use Rattle.reads.specs.declared.answer.MakeAnswer.{MakeAnswer}
 use Rattle.reads.specs.declared.answer.MakeAnswer.the-variants.{Made, Refused as MakeRefused}
 use Rattle.reads.specs.declared.answer.OpenAnswer.{OpenAnswer}
 use Rattle.reads.specs.declared.answer.OpenAnswer.the-variants.{Opened, Refused as OpenRefused}
-use Rattle.reads.specs.declared.answer.TakeAnswer.{TakeAnswer}
-use Rattle.reads.specs.declared.answer.TakeAnswer.the-variants.{More, Done, Failed, Poisoned, Unread, Refused as TakeRefused}
+use Rattle.read_answers.specs.declared.TakeAnswer.{TakeAnswer}
+use Rattle.read_answers.specs.declared.TakeAnswer.the-variants.{More, Done, Failed, Poisoned, Unread, Refused as TakeRefused}
 use Rattle.reads.specs.declared.answer.WithdrawAnswer.{WithdrawAnswer}
 use Rattle.reads.specs.declared.answer.WithdrawAnswer.the-variants.{Withdrawn, Refused as WithdrawRefused}
 use Rattle.reads.specs.declared.answer.OwedAnswer.{OwedAnswer}

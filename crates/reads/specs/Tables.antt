@@ -1,18 +1,15 @@
 -- Document 01: the table, its tags, and when "any call gives 11 first".
 use Prim.Native.Nat.{ℕ}
-use mathlib.Core.Bool.{Bool, false, _&&_}
+use mathlib.Core.Bool.{Bool, _&&_}
 use lib.Dec.{ltb}
 use lib.ListN.{getD, set, replicate}
 use Rattle.bits.specs.Choice.{pick}
 use Rattle.scan.specs.Scans.{allOf}
-use Rattle.byte_enables.specs.declared.Access.{Access}
 use Rattle.tlp.specs.declared.settings.Settings.{Settings}
 use Rattle.tlp.specs.Settings.{settingsListed}
 use Rattle.read_rules.specs.declared.continuation.Origin.{Origin}
-use Rattle.read_rules.specs.declared.validity.Read.{Read}
 use Rattle.read_slots.specs.declared.State.{State}
-use Rattle.read_slots.specs.declared.State.the-variants.{Free, Open}
-use Rattle.read_slots.specs.declared.Slot.{Slot}
+use Rattle.read_slots.specs.declared.State.the-variants.{Free}
 use Rattle.read_slots.specs.Slots.{freeSlot, validSlot}
 pub use Rattle.read_slots.specs.Slots.{capacity}
 use Rattle.reads.specs.declared.table.Table.{Table}
@@ -28,17 +25,6 @@ newTable o = record { origin = o; slots = replicate capacity freeSlot }
 -- a tag's record; a tag over the limit is never open
 unfoldable pub stateAt : Table → ℕ → State
 stateAt t tag = pick (ltb tag (tagLimit (t .origin .settings))) (getD (t .slots) tag freeSlot .state) Free
-
--- the read that a record holds; zeros where it is free
-abbrev pub noRead : Read
-noRead = record {
-  request = record { access = record { address = 0; length = 0; first = 0; last = 0 }; «traffic_class» = 0; attributes = 0; start = 0 };
-  taken = 0;
-}
-
-abbrev pub readIn : State → Read
-readIn Free = noRead
-readIn (Open r) = r
 
 -- every change of a slot
 unfoldable pub withState : Table → ℕ → State → Table

@@ -2,8 +2,8 @@
 use crate::answer::MakeAnswer;
 use crate::answer::OpenAnswer;
 use crate::answer::OwedAnswer;
-use crate::answer::TakeAnswer;
 use crate::answer::WithdrawAnswer;
+use read_answers::TakeAnswer;
 use read_rules::continuation::Origin;
 use read_slots::Slot;
 use read_slots::State;

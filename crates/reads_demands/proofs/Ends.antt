@@ -20,8 +20,9 @@ use Rattle.read_slots.specs.declared.State.{State}
 use Rattle.read_slots.specs.declared.State.the-variants.{Free, Open}
 use Rattle.read_slots.specs.Slots.{isOpen}
 use Rattle.reads.specs.declared.table.Table.{Table}
-use Rattle.reads.specs.declared.answer.TakeAnswer.the-variants.{Done}
-use Rattle.reads.specs.Tables.{newTable, stateAt, readIn}
+use Rattle.read_answers.specs.declared.TakeAnswer.the-variants.{Done}
+use Rattle.reads.specs.Tables.{newTable, stateAt}
+use Rattle.read_answers.specs.Takes.{readIn}
 use Rattle.reads.specs.TakeCall.{takeCall}
 use Rattle.cuttings.specs.Lawful.{pieceIn, after, cleanPacket, lawfulFrom}
 use Rattle.cuttings.proofs.PieceByPiece.{piece-by-piece}

@@ -22,14 +22,16 @@ use Rattle.read_rules.specs.Continuations.{succeeds, reported}
 use Rattle.read_rules.specs.Validity.{owedOf}
 use Rattle.read_rules.specs.Pieces.{pieceOf}
 use Rattle.reads.specs.declared.table.Table.{Table}
-use Rattle.reads.specs.declared.answer.TakeAnswer.{TakeAnswer}
-use Rattle.reads.specs.declared.answer.TakeAnswer.the-variants.{More, Done, Failed, Poisoned, Refused}
+use Rattle.read_answers.specs.declared.TakeAnswer.{TakeAnswer}
+use Rattle.read_answers.specs.declared.TakeAnswer.the-variants.{More, Done, Failed, Poisoned, Refused}
 use Rattle.reads.specs.declared.answer.OwedAnswer.the-variants.{Owed, Refused as OwedRefused}
 use Rattle.reads.specs.declared.answer.MakeAnswer.the-variants.{Made, Refused as MakeRefused}
 use Rattle.reads.specs.Answers.{makeNumber, openNumber, takeNumber, withdrawNumber, owedNumber}
-use Rattle.reads.specs.Tables.{stateAt, readIn, newTable, validTable}
+use Rattle.reads.specs.Tables.{stateAt, newTable, validTable}
+use Rattle.read_answers.specs.Takes.{readIn}
 use Rattle.reads.specs.OpenCall.{headerPacket, openRows, openAnswer, openCall}
-use Rattle.reads.specs.TakeCall.{tagOf, ownRows, outcome, numberOr, packetAnswer, packetTaking, answerTaking, takeCall}
+use Rattle.reads.specs.TakeCall.{packetTaking, answerTaking, takeCall}
+use Rattle.read_answers.specs.Takes.{tagOf, ownRows, outcome, numberOr, packetAnswer}
 use Rattle.reads.specs.OtherCalls.{makeCall, withdrawRows, withdrawAnswer, withdrawCall, owedCall}
 use Rattle.cuttings.specs.Lawful.{packetIn}
 use Rattle.reads_demands.specs.Demand1.{takeRows, owedRows, makeRows, Demand1}

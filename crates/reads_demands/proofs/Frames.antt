@@ -17,12 +17,13 @@ use Rattle.read_store.proofs.StoreLaws.{length-stored, stored-before, stored-af
 use Rattle.reads.specs.declared.table.Table.{Table}
 use Rattle.reads.specs.declared.answer.OpenAnswer.{OpenAnswer}
 use Rattle.reads.specs.declared.answer.OpenAnswer.the-variants.{Opened, Refused as OpenRefused}
-use Rattle.reads.specs.declared.answer.TakeAnswer.{TakeAnswer}
-use Rattle.reads.specs.declared.answer.TakeAnswer.the-variants.{More, Done, Failed, Poisoned, Unread, Refused}
+use Rattle.read_answers.specs.declared.TakeAnswer.{TakeAnswer}
+use Rattle.read_answers.specs.declared.TakeAnswer.the-variants.{More, Done, Failed, Poisoned, Unread, Refused}
 use Rattle.reads.specs.declared.answer.WithdrawAnswer.{WithdrawAnswer}
 use Rattle.reads.specs.declared.answer.WithdrawAnswer.the-variants.{Withdrawn, Refused as WithdrawRefused}
 use Rattle.reads.specs.Answers.{openNumber, takeNumber, withdrawNumber}
-use Rattle.reads.specs.Tables.{stateAt, readIn}
+use Rattle.reads.specs.Tables.{stateAt}
+use Rattle.read_answers.specs.Takes.{readIn}
 use Rattle.reads.specs.OpenCall.{headerPacket, openCall, openOut, tableOpened, outGiven}
 use Rattle.reads.specs.TakeCall.{takeCall, takeStore, tableGiven, storeGiven}
 use Rattle.reads.specs.OtherCalls.{withdrawCall, tableWithdrawn}

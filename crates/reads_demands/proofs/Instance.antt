@@ -32,7 +32,8 @@ use Rattle.reads.specs.declared.table.Table.{Table}
 use Rattle.reads.specs.Tables.{tagLimit, newTable, stateAt, withState, validTable}
 use Rattle.reads.specs.Answers.{openNumber, takeNumber}
 use Rattle.reads.specs.OpenCall.{openCall}
-use Rattle.reads.specs.TakeCall.{outcome, packetAnswer, packetTaking, packetStore, takeCall, takeStore}
+use Rattle.reads.specs.TakeCall.{packetTaking, packetStore, takeCall, takeStore}
+use Rattle.read_answers.specs.Takes.{outcome, packetAnswer}
 use Rattle.reads.specs.OtherCalls.{withdrawCall, owedCall}
 use Rattle.cuttings.specs.Rows.{rowFrom, lawfulRow}
 use Rattle.cuttings.specs.Lawful.{readsAsCompletion, cleanPacket, lengthsOf, cleanFrom, fieldsFrom, lawfulCutting}

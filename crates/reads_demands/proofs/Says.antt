@@ -18,7 +18,8 @@ use Rattle.read_slots.specs.Slots.{freeSlot, sharesIn, sharesWith, owedIn, owed
 use Rattle.reads.specs.declared.table.Table.{Table}
 use Rattle.reads.specs.Tables.{tagLimit, newTable, stateAt, validTable}
 use Rattle.reads.specs.OpenCall.{headerPacket, openRules, openAnswer, openCall}
-use Rattle.reads.specs.TakeCall.{tagOf, packetAnswer, packetTaking, answerTaking, takeCall}
+use Rattle.reads.specs.TakeCall.{packetTaking, answerTaking, takeCall}
+use Rattle.read_answers.specs.Takes.{tagOf, packetAnswer}
 use Rattle.reads.specs.OtherCalls.{withdrawRules, withdrawAnswer, withdrawCall, owedCall}
 use Rattle.reads_demands.specs.History.{Call, opening, taking, withdrawing, asking, openEvent, takeEvent, withdrawEvent, History, Records}
 use Rattle.reads_demands.specs.History.{anyBelow, sumBelow, openBy, readBy, takeBy, withdrawBy, owedBy, recordOf, openRequest, answeredBy, answersAfter, answersOf}

@@ -10,8 +10,8 @@ use Rattle.bits.specs.Choice.{pick}
 use Rattle.read_rules.specs.declared.validity.Read.{Read}
 use Rattle.read_rules.specs.Validity.{owedOf}
 use Rattle.reads.specs.declared.table.Table.{Table}
-use Rattle.reads.specs.declared.answer.TakeAnswer.{TakeAnswer}
-use Rattle.reads.specs.declared.answer.TakeAnswer.the-variants.{More, Done}
+use Rattle.read_answers.specs.declared.TakeAnswer.{TakeAnswer}
+use Rattle.read_answers.specs.declared.TakeAnswer.the-variants.{More, Done}
 use Rattle.reads.specs.TakeCall.{takeCall}
 use Rattle.cuttings.specs.Lawful.{pieceIn}
 use Rattle.reads_demands.specs.Demand2.{Continues, TakenExactly}

@@ -15,7 +15,8 @@ use Rattle.reads.specs.declared.table.Table.{Table}
 use Rattle.reads.specs.Tables.{stateAt, newTable, validTable}
 use Rattle.reads.specs.Answers.{makeNumber, openNumber, takeNumber, withdrawNumber, owedNumber}
 use Rattle.reads.specs.OpenCall.{openRows, openCall, openOut}
-use Rattle.reads.specs.TakeCall.{tagOf, ownRows, takeCall, takeStore}
+use Rattle.reads.specs.TakeCall.{takeCall, takeStore}
+use Rattle.read_answers.specs.Takes.{tagOf, ownRows}
 use Rattle.reads.specs.OtherCalls.{makeCall, withdrawRows, withdrawCall, owedCall}
 use Rattle.cuttings.specs.Lawful.{packetIn}
 

@@ -11,7 +11,7 @@ use Rattle.read_rules.specs.Windows.{holdsWindow}
 use Rattle.read_rules.specs.Continuations.{legal}
 use Rattle.read_slots.specs.declared.State.the-variants.{Open}
 use Rattle.reads.specs.declared.table.Table.{Table}
-use Rattle.reads.specs.declared.answer.TakeAnswer.the-variants.{More, Done}
+use Rattle.read_answers.specs.declared.TakeAnswer.the-variants.{More, Done}
 use Rattle.reads.specs.Tables.{stateAt, validTable}
 use Rattle.reads.specs.TakeCall.{takeCall}
 use Rattle.cuttings.specs.Lawful.{pieceIn, cleanPacket}

@@ -15,7 +15,7 @@ use Rattle.read_rules.specs.Windows.{windowEnd, holdsWindow}
 use Rattle.read_slots.specs.declared.State.{State}
 use Rattle.read_slots.specs.declared.State.the-variants.{Free, Open}
 use Rattle.reads.specs.declared.table.Table.{Table}
-use Rattle.reads.specs.declared.answer.TakeAnswer.the-variants.{More, Done}
+use Rattle.read_answers.specs.declared.TakeAnswer.the-variants.{More, Done}
 use Rattle.reads.specs.Tables.{newTable, stateAt, validTable}
 use Rattle.reads.specs.Answers.{openNumber, takeNumber, withdrawNumber, owedNumber}
 use Rattle.reads.specs.OpenCall.{openCall, openOut}

@@ -18,15 +18,15 @@ use Rattle.read_slots.specs.declared.State.the-variants.{Free, Open}
 use Rattle.read_slots.specs.Slots.{sharesIn, owedIn}
 use Rattle.reads.specs.declared.answer.OpenAnswer.{OpenAnswer}
 use Rattle.reads.specs.declared.answer.OpenAnswer.the-variants.{Opened, Refused as OpenRefused}
-use Rattle.reads.specs.declared.answer.TakeAnswer.{TakeAnswer}
-use Rattle.reads.specs.declared.answer.TakeAnswer.the-variants.{More, Done, Failed, Poisoned, Unread, Refused}
+use Rattle.read_answers.specs.declared.TakeAnswer.{TakeAnswer}
+use Rattle.read_answers.specs.declared.TakeAnswer.the-variants.{More, Done, Failed, Poisoned, Unread, Refused}
 use Rattle.reads.specs.declared.answer.WithdrawAnswer.{WithdrawAnswer}
 use Rattle.reads.specs.declared.answer.WithdrawAnswer.the-variants.{Withdrawn, Refused as WithdrawRefused}
 use Rattle.reads.specs.declared.answer.OwedAnswer.{OwedAnswer}
 use Rattle.reads.specs.declared.answer.OwedAnswer.the-variants.{Owed}
 use Rattle.reads.specs.Tables.{tagLimit}
 use Rattle.reads.specs.OpenCall.{headerPacket, openRules, openAnswer}
-use Rattle.reads.specs.TakeCall.{tagOf, packetAnswer}
+use Rattle.read_answers.specs.Takes.{tagOf, packetAnswer}
 use Rattle.reads.specs.OtherCalls.{withdrawRules, withdrawAnswer}
 use Rattle.cuttings.specs.Lawful.{pieceIn}
 

@@ -9,7 +9,7 @@ use Rattle.read_rules.specs.declared.request.ReadRequest.{ReadRequest}
 use Rattle.read_rules.specs.declared.continuation.Origin.{Origin}
 use Rattle.reads.specs.declared.table.Table.{Table}
 use Rattle.reads.specs.declared.answer.OpenAnswer.the-variants.{Opened}
-use Rattle.reads.specs.declared.answer.TakeAnswer.the-variants.{More, Done, Refused}
+use Rattle.read_answers.specs.declared.TakeAnswer.the-variants.{More, Done, Refused}
 use Rattle.reads.specs.declared.answer.WithdrawAnswer.the-variants.{Refused as WithdrawRefused}
 use Rattle.reads.specs.declared.answer.OwedAnswer.the-variants.{Owed}
 use Rattle.reads.specs.Tables.{newTable}

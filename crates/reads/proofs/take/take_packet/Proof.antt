@@ -1,4 +1,5 @@
-use Rattle.reads.proofs.TakeLaws.{packet-taking, packet-store, more-le}
+use Rattle.read_answers.proofs.TakeLaws.{more-le}
+use Rattle.reads.proofs.TakeLaws.{packet-taking, packet-store}
 use borrow.Author.Needs.{needs}
 use Rattle.reads.proofs.take.take_packet.Statement.{statement}
 use Rattle.reads.proofs.take.take_packet.Tie as tie

@@ -1,7 +1,7 @@
-use Rattle.reads.proofs.TakeLaws.{outcome-laws}
+use Rattle.read_answers.proofs.TakeLaws.{outcome-laws}
 use borrow.Author.Needs.{needs}
-use Rattle.reads.proofs.take.outcome_of.Statement.{statement}
-use Rattle.reads.proofs.take.outcome_of.Tie as tie
+use Rattle.read_answers.proofs.outcome_of.Statement.{statement}
+use Rattle.read_answers.proofs.outcome_of.Tie as tie
 
 has-success-requires : tie.Need-has-success-requires
 has-success-requires c κs = search needs

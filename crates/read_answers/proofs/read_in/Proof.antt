@@ -1,7 +1,7 @@
-use Rattle.reads.proofs.TakeLaws.{read-case}
+use Rattle.read_answers.proofs.TakeLaws.{read-case}
 use borrow.Author.Needs.{needs}
-use Rattle.reads.proofs.take.read_in.Statement.{statement}
-use Rattle.reads.proofs.take.read_in.Tie as tie
+use Rattle.read_answers.proofs.read_in.Statement.{statement}
+use Rattle.read_answers.proofs.read_in.Tie as tie
 
 enum-known-x : tie.Need-enum-known-x
 enum-known-x c = search needs

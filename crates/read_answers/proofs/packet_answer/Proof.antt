@@ -1,7 +1,7 @@
-use Rattle.reads.proofs.TakeLaws.{answer-laws}
+use Rattle.read_answers.proofs.TakeLaws.{answer-laws}
 use borrow.Author.Needs.{needs}
-use Rattle.reads.proofs.take.packet_answer.Statement.{statement}
-use Rattle.reads.proofs.take.packet_answer.Tie as tie
+use Rattle.read_answers.proofs.packet_answer.Statement.{statement}
+use Rattle.read_answers.proofs.packet_answer.Tie as tie
 
 is-completion-requires : tie.Need-is-completion-requires
 is-completion-requires c κs = search needs

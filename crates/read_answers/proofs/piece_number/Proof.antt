@@ -1,7 +1,7 @@
-use Rattle.reads.proofs.TakeLaws.{number-laws}
+use Rattle.read_answers.proofs.TakeLaws.{number-laws}
 use borrow.Author.Needs.{needs}
-use Rattle.reads.proofs.take.piece_number.Statement.{statement}
-use Rattle.reads.proofs.take.piece_number.Tie as tie
+use Rattle.read_answers.proofs.piece_number.Statement.{statement}
+use Rattle.read_answers.proofs.piece_number.Tie as tie
 
 returns : tie.Need-returns
 returns c = search number-laws
