@@ -8,6 +8,7 @@ use native.Mathlib.Omega.{arith}
 use lib.Dec.{eqb}
 use lib.ListN.{length}
 use Rattle.bits.specs.Choice.{pick}
+use Rattle.scan.specs.Scans.{sumOf}
 use Rattle.tlp.specs.Rows.{Row, row, first, Given}
 use Rattle.tlp.proofs.RowLaws.{given-exactly, some-of, none-of}
 use Rattle.tlp.specs.Settings.{settingsListed}
@@ -21,19 +22,20 @@ use Rattle.read_rules.specs.declared.continuation.Origin.{Origin}
 use Rattle.read_rules.specs.Continuations.{succeeds, reported}
 use Rattle.read_rules.specs.Validity.{owedOf}
 use Rattle.read_rules.specs.Pieces.{pieceOf}
+use Rattle.read_slots.specs.Slots.{owedInSlot}
 use Rattle.reads.specs.declared.table.Table.{Table}
 use Rattle.read_answers.specs.declared.TakeAnswer.{TakeAnswer}
 use Rattle.read_answers.specs.declared.TakeAnswer.the-variants.{More, Done, Failed, Poisoned, Refused}
 use Rattle.reads.specs.declared.answer.OwedAnswer.the-variants.{Owed, Refused as OwedRefused}
 use Rattle.reads.specs.declared.answer.MakeAnswer.the-variants.{Made, Refused as MakeRefused}
-use Rattle.reads.specs.Answers.{makeNumber, openNumber, takeNumber, withdrawNumber, owedNumber}
+use Rattle.reads.specs.Answers.{openSaid, takeSaid, owedSaid, makeNumber, openNumber, takeNumber, withdrawNumber, owedNumber}
 use Rattle.reads.specs.Tables.{stateAt, newTable, validTable}
 use Rattle.read_answers.specs.Takes.{readIn}
 use Rattle.reads.specs.OpenCall.{headerPacket, openRows, openAnswer, openCall}
 use Rattle.reads.specs.TakeCall.{packetTaking, answerTaking, takeCall}
 use Rattle.read_answers.specs.Takes.{tagOf, ownRows, outcome, numberOr, packetAnswer}
 use Rattle.reads.specs.OtherCalls.{makeCall, withdrawRows, withdrawAnswer, withdrawCall, owedCall}
-use Rattle.cuttings.specs.Lawful.{packetIn}
+use Rattle.cuttings.specs.Lawful.{packetIn, pieceIn}
 use Rattle.reads_demands.specs.Demand1.{takeRows, owedRows, makeRows, Demand1}
 use Rattle.reads_demands.proofs.Frames.{open-unchanged, take-unchanged, withdraw-unchanged}
 
@@ -46,6 +48,15 @@ open-answer (suc n) size = refl
 open-number : (t : Table) (q : ReadRequest) (tag room space : ℕ) → openNumber (openCall t q tag room space .answer) ≡ first (openRows t q tag room space)
 unfolding openCall
 open-number t q tag room space = open-answer (first (openRows t q tag room space)) (sizeOf (headerPacket (t .origin) q tag))
+
+open-size : (n size : ℕ) → openNumber (openAnswer n size) ≡ 0 → openSaid (openAnswer n size) .value ≡ size
+open-size zero size e = refl
+open-size (suc n) size e = absurd (omega arith)
+
+open-value : (t : Table) (q : ReadRequest) (tag room space : ℕ) → openNumber (openCall t q tag room space .answer) ≡ 0
+    → openSaid (openCall t q tag room space .answer) .value ≡ sizeOf (headerPacket (t .origin) q tag)
+unfolding openCall
+open-value t q tag room space e = open-size (first (openRows t q tag room space)) (sizeOf (headerPacket (t .origin) q tag)) e
 
 withdraw-answer : (n : ℕ) → withdrawNumber (withdrawAnswer n) ≡ n
 withdraw-answer zero = refl
@@ -63,6 +74,14 @@ owed-answer false n = refl
 owed-number : (t : Table) → owedNumber (owedCall t) ≡ first (owedRows t)
 unfolding owedCall
 owed-number t = owed-answer (validTable t) _
+
+owed-figure : (v : Bool) (n : ℕ) → owedNumber (pick v (Owed n) (OwedRefused 11)) ≡ 0 → owedSaid (pick v (Owed n) (OwedRefused 11)) .value ≡ n
+owed-figure true n e = refl
+owed-figure false n e = absurd (omega arith)
+
+owed-value : (t : Table) → owedNumber (owedCall t) ≡ 0 → owedSaid (owedCall t) .value ≡ sumOf owedInSlot (t .slots)
+unfolding owedCall
+owed-value t e = owed-figure (validTable t) (sumOf owedInSlot (t .slots)) e
 
 make-answer : (v : Bool) → makeNumber (pick v Made (MakeRefused 11)) ≡ first (row 11 (not v) ∷ [])
 unfolding first
@@ -113,6 +132,42 @@ module _ (t : Table) (b : List ℕ) (room : ℕ) where
   unfolding takeCall readPacket
   take-number = valid-number (validTable t) (first (readRows (t .origin .settings) b)) refl
 
+-- ---- of take: the status
+
+chosen-value : (a b d : Bool) (s : ℕ) → takeSaid (pick a (pick b Poisoned (pick d Done More)) (Failed s)) .value ≡ pick a 0 s
+chosen-value true true d s = refl
+chosen-value true false true s = refl
+chosen-value true false false s = refl
+chosen-value false b d s = refl
+
+outcome-value : (r : Read) (c : Piece) → takeSaid (outcome r c) .value ≡ pick (succeeds c) 0 (reported (c .header .status))
+unfolding outcome
+outcome-value r c = chosen-value (succeeds c) (c .poisoned) (eqb (c .length) (owedOf r)) (reported (c .header .status))
+
+value-or : (n : ℕ) (x : TakeAnswer) (v : ℕ) → takeSaid x .value ≡ v → takeNumber (numberOr n x) ≡ 0 → takeSaid (numberOr n x) .value ≡ v
+value-or zero x v e h = e
+value-or (suc n) x v e h = absurd (omega arith)
+
+module _ (t : Table) (b : List ℕ) (room : ℕ) where
+  abbrev status : ℕ
+  status = pick (succeeds (pieceIn b)) 0 (reported (pieceIn b .header .status))
+
+  read-value : (n : ℕ) → takeNumber (answerTaking t (answerOf n (packetIn b)) room .answer) ≡ 0 → takeSaid (answerTaking t (answerOf n (packetIn b)) room .answer) .value ≡ status
+  unfolding packetTaking packetAnswer
+  read-value zero e =
+      let x = stateAt t (tagOf (packetIn b)) in
+      value-or (first (ownRows (t .origin) x (packetIn b) room)) (outcome (readIn x) (pieceIn b)) status (outcome-value (readIn x) (pieceIn b)) e
+  read-value (suc n) e = absurd (omega arith)
+
+  valid-value : (v : Bool) (n : ℕ) → takeNumber (pick v (answerTaking t (answerOf n (packetIn b)) room) (record { table = t; answer = Refused 11 }) .answer) ≡ 0
+      → takeSaid (pick v (answerTaking t (answerOf n (packetIn b)) room) (record { table = t; answer = Refused 11 }) .answer) .value ≡ status
+  valid-value true n e = read-value n e
+  valid-value false n e = absurd (omega arith)
+
+  take-value : takeNumber (takeCall t b room .answer) ≡ 0 → takeSaid (takeCall t b room .answer) .value ≡ status
+  unfolding takeCall readPacket
+  take-value e = valid-value (validTable t) (first (readRows (t .origin .settings) b)) e
+
 -- ---- "exactly when"
 
 exactly : (n : ℕ) (rs : List Row) → n ≡ first rs → (k : ℕ) → 0 < k → (n ≡ k) ↔ Given k rs
@@ -140,13 +195,15 @@ demand1 = record {
   opens = λ t q tag store out. record {
     number = exactly _ (openRows t q tag (length store) (length out)) (open-number t q tag (length store) (length out));
     unchanged = open-unchanged t q tag store out;
+    value = open-value t q tag (length store) (length out);
   };
   takes = λ t b store. record {
     number = exactly _ (takeRows t b (length store)) (take-number t b (length store));
     unchanged = take-unchanged t b store;
+    value = take-value t b (length store);
   };
   withdraws = λ t tag. record { number = exactly _ (withdrawRows t tag) (withdraw-number t tag); unchanged = withdraw-unchanged t tag };
-  owes = λ t. exactly _ (owedRows t) (owed-number t);
+  owes = λ t. record { number = exactly _ (owedRows t) (owed-number t); value = owed-value t };
   makes = λ o. record {
     number = exactly _ (makeRows o) (make-number o);
     table = unfold makeCall in refl;
