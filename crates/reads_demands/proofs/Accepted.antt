@@ -70,13 +70,20 @@ some-length q e =
     let l = neither (lengthBad (a .length)) (over 4 (a .first) || over 4 (a .last)) (neither (over 8 0) _ (neither (over 16 0) _ own .1) .1) in
     leb-true 1 (a .length) (and-eq-true-iff (leb 1 (a .length)) (leb (a .length) 1024) .0 (not-false _ (l .0)) .0)
 
+-- what 23 does not hold of
+pub place-parts : (q : ReadRequest) (room : ℕ) → placeBad q room ≡ false → (not (eqb (q .start % 4) 0) ≡ false) × (room ≤ storeLimit) × (windowEnd q ≤ room)
+unfolding placeBad
+place-parts q room e =
+    let a = neither (ltb storeLimit room) (not (eqb (q .start % 4) 0) || ltb room (windowEnd q)) e in
+    let b = neither (not (eqb (q .start % 4) 0)) (ltb room (windowEnd q)) (a .1) in
+    (b .0, ltb-false storeLimit room (a .0), ltb-false room (windowEnd q) (b .1))
+
 -- "(taking a store of 65,536)"
 largest-store : (q : ReadRequest) (room : ℕ) → placeBad q room ≡ false → placeBad q storeLimit ≡ false
 unfolding placeBad
 largest-store q room e =
-    let a = neither (ltb storeLimit room) (not (eqb (q .start % 4) 0) || ltb room (windowEnd q)) e in
-    let b = neither (not (eqb (q .start % 4) 0)) (ltb room (windowEnd q)) (a .1) in
-    rw (b .0, le-ltb storeLimit (windowEnd q) (omega (arith, ltb-false storeLimit room (a .0), ltb-false room (windowEnd q) (b .1))))
+    let a = place-parts q room e in
+    rw (a .0, le-ltb storeLimit (windowEnd q) (omega (arith, a .1, a .2)))
 
 any-none : {A : Type 0} (f : A → Bool) (d : A) (xs : List A) → f d ≡ false → anyOf f xs ≡ false → (u : ℕ) → f (getD xs u d) ≡ false
 unfolding anyOf

@@ -1,12 +1,12 @@
 -- Part of demand 3: the pieces of a lawful cutting that stand after their opening are taken, "whatever calls fall between", and their bytes stand in the window.
-use Prim.Native.Nat.{ℕ, zero, suc, _+_, _-_, _*_, _%_, _≤_, _<_, zero-le}
+use Prim.Native.Nat.{ℕ, zero, suc, _+_, _-_, _*_, _≤_, _<_, zero-le}
 use mathlib.Core.Path.{_≡_, refl, sym, _∙_}
 use mathlib.Core.Logic.{_⊎_, inl, inr, _≢_}
-use mathlib.Core.Bool.{Bool, true, false, not, _||_, _&&_, and-eq-true-iff, true≢false}
+use mathlib.Core.Bool.{Bool, true, false, true≢false}
 use mathlib.Core.Option.{some}
 use mathlib.Core.List.{List, [], _∷_, _++_, append-assoc}
 use native.Mathlib.Omega.{arith}
-use lib.Dec.{eqb, ltb, leb}
+use lib.Dec.{eqb, ltb}
 use lib.ListN.{length, getD, length-append}
 use borrow.Author.Tests.{eqb-true, eqb-false, eq-eqb, ne-eqb, ltb-false, lt-ltb, le-ltb}
 use Rattle.bits.specs.Choice.{pick}
@@ -16,7 +16,7 @@ use Rattle.byte_enables.specs.Enables.{enabled}
 use Rattle.read_rules.specs.declared.request.ReadRequest.{ReadRequest}
 use Rattle.read_rules.specs.declared.validity.Read.{Read}
 use Rattle.read_rules.specs.declared.continuation.Origin.{Origin}
-use Rattle.read_rules.specs.Windows.{storeLimit, windowEnd, placeBad, sharesByte}
+use Rattle.read_rules.specs.Windows.{storeLimit, windowEnd, sharesByte}
 use Rattle.read_rules.specs.Validity.{owedOf}
 use Rattle.read_rules.specs.Continuations.{legal}
 use Rattle.read_store.specs.Stores.{stored}
@@ -40,38 +40,24 @@ use Rattle.reads_demands.specs.History.{Call, opening, taking, withdrawi
 use Rattle.reads_demands.specs.History.{keeps, opens, openChange, takeChange, withdrawChange}
 use Rattle.reads_demands.specs.Demand2.{Continues}
 use Rattle.reads_demands.specs.Demand3.{next, answered, lent, left, run, Item, other, piece, calls, pieces, Harmless, Undisturbed, SameWindow, orLast, SameStore, AllMore, Delivered, Outside}
-use Rattle.reads_demands.proofs.Tests.{neither}
+use Rattle.reads_demands.proofs.LawfulPieces.{next-piece}
 use Rattle.reads_demands.proofs.CleanPieces.{clean-bytes, legal-length, within-window}
 use Rattle.reads_demands.proofs.OneTake.{continues, take-store}
 use Rattle.reads_demands.proofs.Limits.{either}
 use Rattle.reads_demands.proofs.Steps.{doublewords-end}
-use Rattle.reads_demands.proofs.Accepted.{opened-rows}
+use Rattle.reads_demands.proofs.Accepted.{opened-rows, place-parts}
 use Rattle.reads_demands.proofs.Runs.{Sound, sound-next, sound-valid, state-next, apart}
 use Rattle.reads_demands.proofs.Frames.{frame, take-unchanged}
 use Rattle.reads_demands.proofs.WindowBytes.{joined-end, windowByte, piece-bytes}
 
 -- ---- a lawful cutting, from its next piece on
 
-record NextPiece (o : Origin) (tag : ℕ) (q : ReadRequest) (p : ℕ) (b : List ℕ) (bs : List (List ℕ)) : Type 0 where
-  is-clean : cleanPacket o tag (after q p) b ≡ true
-  is-legal : legal o (after q p) (pieceIn b) ≡ true
-  rest : lawfulFrom o tag q (p + pieceIn b .length) bs ≡ true
-
 module _ (o : Origin) (tag : ℕ) (q : ReadRequest) where
-  next-piece : (p : ℕ) (b : List ℕ) (bs : List (List ℕ)) → lawfulFrom o tag q p (b ∷ bs) ≡ true → NextPiece o tag q p b bs
-  unfolding lawfulFrom
-  next-piece p b bs e =
-      let most = leb (4 * pieceIn b .length) (o .settings .mps) in
-      let later = lawfulFrom o tag q (p + pieceIn b .length) bs in
-      let c = and-eq-true-iff (cleanPacket o tag (after q p) b) (legal o (after q p) (pieceIn b) && (most && later)) .0 e in
-      let l = and-eq-true-iff (legal o (after q p) (pieceIn b)) (most && later) .0 (c .1) in
-      record { is-clean = c .0; is-legal = l .0; rest = and-eq-true-iff most later .0 (l .1) .1 }
-
   -- where a piece is to come, the read isn't at its end
   piece-left : (p : ℕ) (b : List ℕ) (bs : List (List ℕ)) → lawfulFrom o tag q p (b ∷ bs) ≡ true → p < q .access .length
   unfolding owedOf
   piece-left p b bs e =
-      let l = legal-length o (after q p) (pieceIn b) (next-piece p b bs e .is-legal) in
+      let l = legal-length o (after q p) (pieceIn b) (next-piece o tag q p b bs e .0 .is-legal) in
       omega arith
 
   pieces-left : (p : ℕ) (bs : List (List ℕ)) (b : List ℕ) → lawfulFrom o tag q p (bs ++ (b ∷ [])) ≡ true → p < q .access .length
@@ -80,7 +66,7 @@ module _ (o : Origin) (tag : ℕ) (q : ReadRequest) where
 
   last-ends : (p : ℕ) (b : List ℕ) → lawfulFrom o tag q p (b ∷ []) ≡ true → p + pieceIn b .length ≡ q .access .length
   unfolding lawfulFrom
-  last-ends p b e = eqb-true _ _ (next-piece p b [] e .rest)
+  last-ends p b e = eqb-true _ _ (next-piece o tag q p b [] e .1)
 
 -- ---- calls that fall between: none changes the tag's record
 
@@ -265,28 +251,21 @@ deliver : (o : Origin) (q : ReadRequest) (tag : ℕ) (opened b store : List ℕ)
 unfolding run
 deliver o q tag opened b store limit room [] sofar t last m e u w =
     let n = next-piece o tag q (doublewords sofar) b [] e in
-    last-piece o q tag opened sofar t last m limit room b store (n .is-clean) (n .is-legal) (w .0) (last-ends o tag q (doublewords sofar) b e)
+    last-piece o q tag opened sofar t last m limit room b store (n .0 .is-clean) (n .0 .is-legal) (w .0) (last-ends o tag q (doublewords sofar) b e)
 deliver o q tag opened b store limit room (other c ∷ mid) sofar t last m e u w =
     let i = deliver o q tag opened b store limit room mid sofar (next t c) (orLast last (left t c)) (mid-other o q tag opened sofar t last m c (u .0) (w .0)) e (u .1) (w .1) in
     record { taken = i .taken; done = i .done; free = i .free; bytes = i .bytes }
 deliver o q tag opened b store limit room (piece x s ∷ mid) sofar t last m e u w =
     let n = next-piece o tag q (doublewords sofar) x (pieces mid ++ (b ∷ [])) e in
-    let l = pieces-left o tag q (doublewords sofar + pieceIn x .length) (pieces mid) b (n .rest) in
-    let k = mid-piece o q tag opened sofar t last m limit room x s (n .is-clean) (n .is-legal) (w .0) l in
-    let i = deliver o q tag opened b store limit room mid (sofar ++ (x ∷ [])) (next t (taking x s)) (takeStore t x s) (k .1) (rw (doublewords-end sofar x) (n .rest)) u (w .1) in
+    let l = pieces-left o tag q (doublewords sofar + pieceIn x .length) (pieces mid) b (n .1) in
+    let k = mid-piece o q tag opened sofar t last m limit room x s (n .0 .is-clean) (n .0 .is-legal) (w .0) l in
+    let i = deliver o q tag opened b store limit room mid (sofar ++ (x ∷ [])) (next t (taking x s)) (takeStore t x s) (k .1) (rw (doublewords-end sofar x) (n .1)) u (w .1) in
     record {
       taken = (k .0, i .taken);
       done = i .done;
       free = i .free;
       bytes = λ j h. rw (← (append-assoc sofar (x ∷ []) (pieces mid ++ (b ∷ [])))) (i .bytes j h);
     }
-
--- what an accepted open says of its store
-place-room : (q : ReadRequest) (room : ℕ) → placeBad q room ≡ false → (room ≤ storeLimit) × (windowEnd q ≤ room)
-unfolding placeBad
-place-room q room e =
-    let a = neither (ltb storeLimit room) (not (eqb (q .start % 4) 0) || ltb room (windowEnd q)) e in
-    (ltb-false _ _ (a .0), ltb-false _ _ (neither (not (eqb (q .start % 4) 0)) (ltb room (windowEnd q)) (a .1) .1))
 
 accepted-opens : (n size : ℕ) (q : ReadRequest) → openNumber (openAnswer n size) ≡ 0 → openChange q (openAnswer n size) ≡ opens q
 accepted-opens zero size q e = refl
@@ -318,7 +297,7 @@ pub delivery : {o : Origin} {t : Table} → Sound o t → (q : ReadRequest) (tag
 unfolding doublewords
 delivery {o} {t} g q tag store₀ out mid b store e l u w =
     let n = opened-rows t q tag (length store₀) (length out) e in
-    let r = place-room q (length store₀) (n .1 .1 .1 .1 .1 .1 .1 .0) in
-    let i = deliver o q tag store₀ b store (r .0) (r .1) mid [] (next t (opening q tag store₀ out)) store₀ (mid-opened g q tag store₀ out e)
+    let r = place-parts q (length store₀) (n .1 .1 .1 .1 .1 .1 .1 .0) in
+    let i = deliver o q tag store₀ b store (r .1) (r .2) mid [] (next t (opening q tag store₀ out)) store₀ (mid-opened g q tag store₀ out e)
     (sym (piece-by-piece o tag q (pieces mid ++ (b ∷ []))) ∙ l) u w in
     record { taken = i .taken; done = i .done; free = i .free; bytes = i .bytes }

@@ -1,13 +1,12 @@
 -- Demand 3: "A take answers Done exactly when its tag is open, the tag's pieces taken since that opening and then its own are a lawful cutting, and its
 -- store .. can hold the window."
-use Prim.Native.Nat.{ℕ, _+_, _-_, _*_}
+use Prim.Native.Nat.{ℕ, _+_, _-_}
 use mathlib.Core.Path.{_≡_, refl, sym, ap, _∙_}
 use mathlib.Core.Logic.{_↔_}
-use mathlib.Core.Bool.{true, and-eq-true-iff, true≢false}
+use mathlib.Core.Bool.{true, true≢false}
 use mathlib.Core.Option.{Option, none, some}
 use mathlib.Core.List.{List, [], _∷_, _++_}
 use native.Mathlib.Omega.{arith}
-use lib.Dec.{leb}
 use lib.ListN.{length}
 use borrow.Author.Tests.{eq-eqb, eqb-true, le-leb}
 use Rattle.tlp.specs.Settings.{settingsListed}
@@ -15,7 +14,6 @@ use Rattle.read_rules.specs.declared.request.ReadRequest.{ReadRequest}
 use Rattle.read_rules.specs.declared.validity.Read.{Read}
 use Rattle.read_rules.specs.declared.continuation.Origin.{Origin}
 use Rattle.read_rules.specs.Validity.{owedOf}
-use Rattle.read_rules.specs.Continuations.{legal}
 use Rattle.read_slots.specs.declared.State.{State}
 use Rattle.read_slots.specs.declared.State.the-variants.{Free, Open}
 use Rattle.read_slots.specs.Slots.{isOpen}
@@ -30,6 +28,7 @@ use Rattle.reads_demands.specs.History.{Call, History, Change, keeps, op
 use Rattle.reads_demands.specs.History.{recordOf, answeredBy, answersAfter, answersOf}
 use Rattle.reads_demands.specs.Demand2.{Continues}
 use Rattle.reads_demands.specs.Demand3.{answered, next, run, Ends}
+use Rattle.reads_demands.proofs.LawfulPieces.{LawfulPiece, next-piece}
 use Rattle.reads_demands.proofs.CleanPieces.{clean-bytes, legal-length}
 use Rattle.reads_demands.proofs.OneTake.{meets, continues, done-last}
 use Rattle.reads_demands.proofs.Steps.{doublewords-end}
@@ -40,17 +39,11 @@ use Rattle.reads_demands.proofs.Says.{Follows, follows-new, follows-nex
 -- ---- a cutting up to its last piece
 
 module _ (o : Origin) (tag : ℕ) (q : ReadRequest) where
-  -- "clean pieces, each legal in turn, none over MPS"
-  record LawfulPiece (p : ℕ) (b : List ℕ) : Type 0 where
-    is-clean : cleanPacket o tag (after q p) b ≡ true
-    is-legal : legal o (after q p) (pieceIn b) ≡ true
-    most : leb (4 * pieceIn b .length) (o .settings .mps) ≡ true
-
   abbrev Begun : ℕ → List (List ℕ) → Type 0
   Begun p [] = Unit {0}
-  Begun p (b ∷ bs) = LawfulPiece p b × Begun (p + pieceIn b .length) bs
+  Begun p (b ∷ bs) = LawfulPiece o tag q p b × Begun (p + pieceIn b .length) bs
 
-  begun-end : (p : ℕ) (bs : List (List ℕ)) (b : List ℕ) → Begun p bs → LawfulPiece (p + doublewords bs) b → Begun p (bs ++ (b ∷ []))
+  begun-end : (p : ℕ) (bs : List (List ℕ)) (b : List ℕ) → Begun p bs → LawfulPiece o tag q (p + doublewords bs) b → Begun p (bs ++ (b ∷ []))
   unfolding doublewords
   begun-end p [] b k l = (let e : p + 0 ≡ p = omega arith in rw e at l, tt)
   begun-end p (x ∷ bs) b k l =
@@ -67,13 +60,11 @@ module _ (o : Origin) (tag : ℕ) (q : ReadRequest) where
   unfolding doublewords lawfulFrom
   lawful-begun p [] e = (tt, omega (arith, eqb-true p (q .access .length) e))
   lawful-begun p (b ∷ bs) e =
-      let c = and-eq-true-iff _ _ .0 e in
-      let l = and-eq-true-iff _ _ .0 (c .1) in
-      let m = and-eq-true-iff _ _ .0 (l .1) in
-      let i = lawful-begun (p + pieceIn b .length) bs (m .1) in
-      ((record { is-clean = c .0; is-legal = l .0; most = m .0 }, i .0), omega (arith, i .1))
+      let n = next-piece o tag q p b bs e in
+      let i = lawful-begun (p + pieceIn b .length) bs (n .1) in
+      ((n .0, i .0), omega (arith, i .1))
 
-  begun-last : (p : ℕ) (bs : List (List ℕ)) (b : List ℕ) → Begun p (bs ++ (b ∷ [])) → LawfulPiece (p + doublewords bs) b
+  begun-last : (p : ℕ) (bs : List (List ℕ)) (b : List ℕ) → Begun p (bs ++ (b ∷ [])) → LawfulPiece o tag q (p + doublewords bs) b
   unfolding doublewords
   begun-last p [] b k = let e : p + 0 ≡ p = omega arith in rw e (k .0)
   begun-last p (x ∷ bs) b k =

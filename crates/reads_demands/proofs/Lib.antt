@@ -3,6 +3,7 @@ pub mod PieceSizes
 pub mod CleanPieces
 pub mod OneTake
 pub mod TakenProof
+pub mod LawfulPieces
 pub mod Limits
 pub mod Belows
 pub mod Steps

@@ -9,7 +9,6 @@ use lib.ListN.{length, getD, List·getD-eq-default, getD-replicate, length-repli
 use lib.Seq.{getD-set-same, getD-set-other, set-out}
 use borrow.Author.Tests.{ltb-true, ltb-false, lt-ltb, le-ltb, eqb-true, eqb-false}
 use Rattle.bits.specs.Choice.{pick}
-use Rattle.tlp.specs.declared.settings.Settings.{Settings}
 use Rattle.read_rules.specs.declared.continuation.Origin.{Origin}
 use Rattle.read_slots.specs.declared.State.{State}
 use Rattle.read_slots.specs.declared.State.the-variants.{Free}
