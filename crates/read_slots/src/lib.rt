@@ -19,6 +19,9 @@ pub struct Slot {
     pub state: State,
 }
 
+// The slots that a table has room for.
+pub const CAPACITY: usize = 32;
+
 pub fn is_open(x: State) -> bool
     ensures { λ r. ⌜ r ≡ isOpen x ⌝ }
 {
@@ -59,11 +62,11 @@ fn owed_in_slot(x: Slot) -> u32
 }
 
 // Whether open would accept every read that is open.
-pub fn slots_valid(s: Settings, slots: [Slot; 32]) -> bool
+pub fn slots_valid(s: Settings, slots: [Slot; CAPACITY]) -> bool
     ensures { λ r. ⌜ r ≡ allOf (validSlot s) slots ⌝ }
 {
     let mut i: usize = 0;
-    while i < 32 {
+    while i < CAPACITY {
         let x = slots[i];
         if !slot_valid(s, x) {
             return false;
@@ -74,11 +77,11 @@ pub fn slots_valid(s: Settings, slots: [Slot; 32]) -> bool
 }
 
 // Whether the window shares a byte with an open read's, tags ascending, up to the first that does.
-pub fn window_taken(q: ReadRequest, slots: [Slot; 32]) -> bool
+pub fn window_taken(q: ReadRequest, slots: [Slot; CAPACITY]) -> bool
     ensures { λ r. ⌜ r ≡ anyOf (sharesWith q) slots ⌝ }
 {
     let mut i: usize = 0;
-    while i < 32 {
+    while i < CAPACITY {
         let x = slots[i];
         if shares_with(q, x) {
             return true;
@@ -89,12 +92,12 @@ pub fn window_taken(q: ReadRequest, slots: [Slot; 32]) -> bool
 }
 
 // The doublewords owed in all slots.
-pub fn slots_owed(slots: [Slot; 32]) -> u64
+pub fn slots_owed(slots: [Slot; CAPACITY]) -> u64
     ensures { λ n. ⌜ n ≡ sumOf owedInSlot slots ⌝ }
 {
     let mut sum: u64 = 0;
     let mut i: usize = 0;
-    while i < 32 {
+    while i < CAPACITY {
         let x = slots[i];
         sum += owed_in_slot(x) as u64;
         i += 1;

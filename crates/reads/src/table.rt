@@ -5,6 +5,7 @@ use crate::answer::OwedAnswer;
 use crate::answer::WithdrawAnswer;
 use read_answers::TakeAnswer;
 use read_rules::continuation::Origin;
+use read_slots::CAPACITY;
 use read_slots::Slot;
 use read_slots::State;
 use read_slots::is_open;
@@ -19,7 +20,7 @@ ghost use Rattle.reads.specs.OtherCalls.{makeCall, withdrawCall, owedCal
 // Fields are public, so that a table that no call reaches can be made and tried.
 pub struct Table {
     pub origin: Origin,
-    pub slots: [Slot; 32],
+    pub slots: [Slot; CAPACITY],
 }
 
 // Each call hands the next table back beside its answer.
@@ -79,10 +80,11 @@ pub(crate) fn state_at(t: Table, tag: u32) -> State
 pub(crate) fn with_state(mut t: Table, tag: u32, x: State) -> Table
     ensures { λ n. ⌜ n ≡ withState t tag x ⌝ }
 {
-    if 32 <= tag {
+    let i = tag as usize;
+    if CAPACITY <= i {
         return t;
     }
-    t.slots[tag as usize] = Slot { state: x };
+    t.slots[i] = Slot { state: x };
     t
 }
 
@@ -97,7 +99,7 @@ impl Table {
                 settings: settings,
                 requester: requester,
             },
-            slots: [free; 32],
+            slots: [free; CAPACITY],
         };
         if settings_listed(settings) {
             return Making {
