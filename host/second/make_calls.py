@@ -91,7 +91,7 @@ def edges_cuttings(script):
 
 
 def edges_enables(script):
-    """P5 to P8 and P10, P11, with the counts and bytes as document 01 has them."""
+    """P5 to P11, with the counts and bytes as document 01 has them."""
     script.new(4096, 4096, 64)
     script.fill(0xAA)
     script.open(0, len=1, first=0b1010, last=0)

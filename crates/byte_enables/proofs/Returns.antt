@@ -2,6 +2,7 @@
 use mathlib.Core.Path.{_≡_, sym, ap, _∙_}
 use mathlib.Core.Bool.{Bool, true, false, not}
 use Prim.Native.Nat.{ℕ, _+_, _-_, _*_, _/_, _%_, _^_, _≤_, _<_}
+use native.Mathlib.Nat.{zero-div}
 use native.Mathlib.Omega.{arith}
 use lib.Dec.{eqb}
 use borrow.Author.Tests.{eq-eqb, ne-eqb, le-leb, lt-leb}
@@ -92,11 +93,15 @@ module _ (a : Access) (i : ℕ) where
     unfolding enablesAt
     at-middle h e = rw (lt-leb (a .length) i l, ne-eqb i 0 h, ne-eqb (i + 1) (a .length) e)
 
+pub at-past : (a : Access) (k : ℕ) → a .length ≤ k / 4 → false ≡ enabled a k
+unfolding enabled enablesAt
+at-past a k h = rw (le-leb (a .length) (k / 4) h, zero-div (2 ^ (k % 4)))
+
 pub at-byte : (a : Access) (k e : ℕ) → e ≡ enablesAt a (k / 4) → eqb (e / 2 ^ (k % 4) % 2) 1 ≡ enabled a k
 unfolding enabled
 at-byte a k e h = rw h
 
-pub ruleset at-laws = (at-none, at-first, at-last, at-middle, at-byte)
+pub ruleset at-laws = (at-none, at-first, at-last, at-middle, at-past, at-byte)
 
 -- the enabled bytes of the first m doublewords
 

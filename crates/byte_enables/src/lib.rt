@@ -113,10 +113,14 @@ pub fn enables_at(a: Access, i: u32) -> u8
     0b1111
 }
 
-pub fn enabled_at(a: Access, k: u32) -> bool
+pub fn enabled_at(a: Access, k: u64) -> bool
     ensures { λ r. ⌜ r ≡ enabled a k ⌝ }
 {
-    (enables_at(a, k / 4) >> (k % 4)) % 2 == 1
+    let i = k / 4;
+    if a.length as u64 <= i {
+        return false;
+    }
+    (enables_at(a, i as u32) >> (k % 4)) % 2 == 1
 }
 
 // The enabled bytes of the first m doublewords: every byte, but for those clear at the two ends.

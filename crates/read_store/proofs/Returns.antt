@@ -1,41 +1,20 @@
 -- One law for each return of the code.
-use Prim.Native.Nat.{ℕ, min, _+_, _-_, _*_, _/_, _%_, _^_, _≤_, _<_}
-use mathlib.Core.Path.{_≡_, refl, sym, _∙_}
+use Prim.Native.Nat.{ℕ, min, _+_, _-_, _*_, _≤_, _<_}
+use mathlib.Core.Path.{_≡_, refl, sym}
 use mathlib.Core.Logic.{_⊎_, inl, inr}
 use mathlib.Core.List.{List, [], _∷_, _++_, append-nil}
 use mathlib.Core.Bool.{Bool, true, false}
-use native.Mathlib.Nat.{zero-div, min-eq-left, min-eq-right}
+use native.Mathlib.Nat.{min-eq-left, min-eq-right}
 use native.Mathlib.Omega.{arith}
-use lib.Dec.{eqb, leb}
+use lib.Dec.{leb}
 use lib.ListN.{length, take, drop, length-drop, drop-of-length-le}
 use lib.Seq.{take-all}
-use borrow.Author.Tests.{le-leb, leb-true, leb-false}
-use Rattle.bits.specs.Field.{bit}
-use Rattle.byte_enables.specs.declared.Access.{Access}
-use Rattle.byte_enables.specs.Enables.{enablesAt, enabled}
+use borrow.Author.Tests.{leb-true, leb-false}
+use Rattle.byte_enables.specs.Enables.{enabled}
 use Rattle.scan.specs.Merges.{merged}
 use Rattle.scan.proofs.MergeSteps.{merged-part}
 use Rattle.read_rules.specs.declared.request.ReadRequest.{ReadRequest}
 use Rattle.read_store.specs.Stores.{stored}
-
-module _ (a : Access) (p i : ℕ) where
-  doubleword : (4 * p + i) / 4 ≡ p + i / 4
-  doubleword = omega arith
-
-  within : (4 * p + i) % 4 ≡ i % 4
-  within = omega arith
-
-  pub byte-past : a .length ≤ p + i / 4 → false ≡ enabled a (4 * p + i)
-  unfolding enabled enablesAt
-  byte-past h = rw (doubleword, le-leb (a .length) (p + i / 4) h, zero-div (2 ^ ((4 * p + i) % 4)))
-
-  pub byte-inside : (e : ℕ) → e ≡ enablesAt a (p + i / 4) → eqb (e / 2 ^ (i % 4) % 2) 1 ≡ enabled a (4 * p + i)
-  unfolding enabled
-  byte-inside e h = rw (doubleword, within, ← h)
-
-pub ruleset byte-laws = (byte-past, byte-inside)
-
--- ---- the part of the store
 
 module _ (q : ReadRequest) (p : ℕ) (ds st : List ℕ) where
   past : length st ≤ q .start + 4 * p → st ≡ stored q p ds st

@@ -1,7 +1,7 @@
 // Writing the bytes of a piece into the store.
 use bits::choice::lesser;
 use byte_enables::Access;
-use byte_enables::enables_at;
+use byte_enables::enabled_at;
 use read_rules::request::ReadRequest;
 ghost use mathlib.Core.Path.{_≡_};
 ghost use Prim.Native.Nat.{_+_, _*_, min};
@@ -9,17 +9,6 @@ ghost use Rattle.bits.specs.Choice.{pick};
 ghost use Rattle.byte_enables.specs.Enables.{enabled};
 ghost use Rattle.scan.specs.Merges.{merged};
 ghost use Rattle.read_store.specs.Stores.{stored};
-
-// Whether byte i from doubleword p on is enabled.
-fn byte_enabled(a: Access, p: u32, i: usize) -> bool
-    ensures { λ r. ⌜ r ≡ enabled a (4 * p + i) ⌝ }
-{
-    let at = p as u64 + (i / 4) as u64;
-    if a.length as u64 <= at {
-        return false;
-    }
-    (enables_at(a, at as u32) >> (i % 4)) % 2 == 1
-}
 
 fn chosen(first: bool, a: u8, b: u8) -> u8
     ensures { λ r. ⌜ r ≡ pick first a b ⌝ }
@@ -39,7 +28,7 @@ pub fn store_enabled(a: Access, p: u32, payload: &[u8], part: &mut [u8])
         if part.len() <= i {
             return;
         }
-        part[i] = chosen(byte_enabled(a, p, i), payload[i], part[i]);
+        part[i] = chosen(enabled_at(a, 4 * p as u64 + i as u64), payload[i], part[i]);
         i += 1;
     }
 }

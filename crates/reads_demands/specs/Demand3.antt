@@ -167,7 +167,7 @@ pub record Demand3 (o : Origin) (cs : List Call) : Type 0 where
   -- "each answer, and after the list each tag's record, is what document 01 makes of the calls alone"
   pub says : answers (newTable o) [] cs ≡ answersOf o cs
   pub records : (tag : ℕ) → stateAt (run (newTable o) cs) tag ≡ recordOf (answersOf o cs) tag
-  -- "both fixed for its life"; no call of the list meets an invalid table
+  -- "both fixed for its life"; the table stays valid, after every list and so before every call
   pub origin : run (newTable o) cs .origin ≡ o
   pub valid : validTable (run (newTable o) cs) ≡ true
   -- "Let the pieces of any lawful cutting for a read opened in the list stand there after that opening, in address order, whatever calls fall between."

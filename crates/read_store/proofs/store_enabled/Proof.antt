@@ -24,8 +24,14 @@ same-length c = search needs
 returns : tie.Need-returns Inv-loop μ-loop
 returns c = search merge-steps
 
-byte-enabled-requires : tie.Need-byte-enabled-requires Inv-loop μ-loop
-byte-enabled-requires c κs = search needs
+mul-enabled-at : tie.Need-mul-enabled-at Inv-loop μ-loop
+mul-enabled-at c = search needs
+
+add-enabled-at : tie.Need-add-enabled-at Inv-loop μ-loop
+add-enabled-at c = search needs
+
+enabled-at-requires : tie.Need-enabled-at-requires Inv-loop μ-loop
+enabled-at-requires c κs = search needs
 
 shared-slice-read-chosen : tie.Need-shared-slice-read-chosen Inv-loop μ-loop
 shared-slice-read-chosen c = search needs
@@ -63,7 +69,9 @@ store-enabled-spec =
     loop-holds
     same-length
     returns
-    byte-enabled-requires
+    mul-enabled-at
+    add-enabled-at
+    enabled-at-requires
     shared-slice-read-chosen
     slice-read-chosen
     chosen-requires
