@@ -26,32 +26,28 @@ use Rattle.reads.specs.Tables.{tagLimit, stateAt, withState, validTable}
 abbrev pub headerPacket : Origin → ReadRequest → ℕ → Packet
 headerPacket o q tag = requestPacket (o .requester) tag q
 
--- "6, 7, 8 as the writer; 20 tag over 31; 21 tag open; 22; 23; 24 window shares a byte with an open read's window; 12": x is the tag's record,
--- shared whether the window shares a byte with an open read's, room the store's length, space the output's
-abbrev pub openRules : Origin → State → Bool → ReadRequest → ℕ → ℕ → ℕ → List Row
-openRules o x shared q tag room space =
+-- "6, 7, 8 as the writer; 20 tag over 31; 21 tag open; 22; 23; 24 window shares a byte with an open read's window": x is the tag's record, shared
+-- whether the window shares a byte with an open read's, room the store's length
+abbrev pub earlyRules : Origin → State → Bool → ReadRequest → ℕ → ℕ → List Row
+earlyRules o x shared q tag room =
     requestRows q
     ++ (row 20 (leb (tagLimit (o .settings)) tag)
     ∷ row 21 (isOpen x)
     ∷ (placeRows (o .settings) q room
     ++ (row 24 shared
-    ∷ row 12 (ltb space (sizeOf (headerPacket o q tag)))
     ∷ [])))
+
+-- the last is 12, of the header; space is the output's length
+abbrev pub openRules : Origin → State → Bool → ReadRequest → ℕ → ℕ → ℕ → List Row
+openRules o x shared q tag room space = earlyRules o x shared q tag room ++ (row 12 (ltb space (sizeOf (headerPacket o q tag))) ∷ [])
 
 -- "Any call gives 11 first"
 abbrev pub openRows : Table → ReadRequest → ℕ → ℕ → ℕ → List Row
 openRows t q tag room space = row 11 (not (validTable t)) ∷ openRules (t .origin) (stateAt t tag) (anyOf (sharesWith q) (t .slots)) q tag room space
 
--- the rows before 12
+-- the rows before 12, which is the writer's
 abbrev pub earlyRows : Table → ReadRequest → ℕ → ℕ → List Row
-earlyRows t q tag room =
-    row 11 (not (validTable t))
-    ∷ (requestRows q
-    ++ (row 20 (leb (tagLimit (t .origin .settings)) tag)
-    ∷ row 21 (isOpen (stateAt t tag))
-    ∷ (placeRows (t .origin .settings) q room
-    ++ (row 24 (anyOf (sharesWith q) (t .slots))
-    ∷ []))))
+earlyRows t q tag room = row 11 (not (validTable t)) ∷ earlyRules (t .origin) (stateAt t tag) (anyOf (sharesWith q) (t .slots)) q tag room
 
 -- the answer: a number, or else the header's size
 abbrev pub openAnswer : ℕ → ℕ → OpenAnswer
