@@ -1,0 +1,79 @@
+-- What the loops and the fields ask of lists and numbers.
+use Prim.Native.Nat.{ℕ, suc, _+_, _*_, _/_, _%_, _^_, _≤_, _<_}
+use mathlib.Core.Path.{_≡_, refl, sym, ap, _∙_}
+use mathlib.Core.List.{List, [], _∷_, _++_, append-nil}
+use native.Mathlib.Nat.{mod-add-mod, add-mul-mod-self-right}
+use native.Mathlib.Numerals.{add-one}
+use native.Mathlib.Omega.{arith}
+use lib.Bits.{bitXor}
+use lib.ListN.{length, getD, set, drop, replicate, drop-of-length-le}
+use lib.Seq.{drop-cons}
+use borrow.Author.Fill.{fill-more}
+use borrow.Author.Tests.{lt-ltb}
+use Rattle.text.specs.Hex.{hexNumber}
+use Rattle.text.specs.Decimal.{decimalNumber}
+use Rattle.text.specs.declared.number.Parsed.{Parsed}
+use Rattle.text.specs.declared.number.Parsed.the-variants.{Number}
+use Rattle.text.proofs.Bounds.{decimal-lt, hex-lt}
+use Rattle.reads.specs.declared.table.Making.{Making}
+use Rattle.reads.specs.declared.table.Opening.{Opening}
+use Rattle.reads.specs.declared.table.Taking.{Taking}
+use Rattle.reads.specs.declared.table.Withdrawal.{Withdrawal}
+use Rattle.calls.specs.Sum.{sumFrom}
+
+-- ---- numbers of a line
+
+pub decimal-le : (most n : ℕ) (s : List ℕ) (p : Parsed) → p ≡ decimalNumber most s → p ≡ Number n → n ≤ most
+decimal-le most n s p d e = omega (arith, decimal-lt most n (suc most) s p d e (lt-ltb most (suc most) (omega arith)))
+
+pub four-lt : (n : ℕ) (s : List ℕ) (p : Parsed) → p ≡ hexNumber s → p ≡ Number n → length s ≡ 4 → n < 65536
+four-lt n s p d e l = hex-lt n 4 65536 s p d e l refl
+
+-- ---- a store filled up to index i
+
+module _ (i b : ℕ) (s₀ s : List ℕ) (e : s ≡ replicate i b ++ drop i s₀) where
+  pub fill-next : length s ≡ length s₀ → i < length s → set s i b ≡ replicate (i + 1) b ++ drop (i + 1) s₀
+  fill-next k h = rw e (fill-more i b s₀ (omega arith))
+
+  pub fill-done : i ≤ length s₀ → length s ≡ length s₀ → length s ≤ i → s ≡ replicate (length s₀) b
+  fill-done l k h =
+      let j : i ≡ length s₀ = omega arith in
+      let n : length s₀ ≤ i = omega arith in
+      rw (e, drop-of-length-le s₀ n, append-nil (replicate i b), j)
+
+-- ---- a sum up to index i
+
+-- the product with the prime, from its parts
+pub prime-parts : (h p r : ℕ) → p ≡ (h / 4294967296 * 435 % 4294967296 * 4294967296 + h % 4294967296 * 435) % 2 ^ 64
+    → r ≡ (p + h % 16777216 * 1099511627776) % 2 ^ 64 → r ≡ h * 1099511628211 % 2 ^ 64
+prime-parts h p r e f =
+    let low = h / 4294967296 * 435 % 4294967296 * 4294967296 + h % 4294967296 * 435 in
+    let shifted = h % 16777216 * 1099511627776 in
+    let wraps = h / 4294967296 * 435 / 4294967296 + h / 16777216 in
+    let whole : h * 1099511628211 ≡ low + shifted + wraps * 2 ^ 64 = omega arith in
+    rw (f, e, whole) (mod-add-mod low (2 ^ 64) shifted ∙ sym (add-mul-mod-self-right (low + shifted) wraps (2 ^ 64)))
+
+module _ (i h x : ℕ) (s : List ℕ) (e : sumFrom h (drop i s) ≡ x) where
+  pub sum-next : (w r : ℕ) → i < length s → w ≡ getD s i 0 → r ≡ bitXor h w * 1099511628211 % 2 ^ 64 → sumFrom r (drop (i + 1) s) ≡ x
+  unfolding sumFrom
+  sum-next w r l f g = rw (g, f, add-one i) (rw (drop-cons s i 0 l) at e)
+
+  pub sum-done : length s ≤ i → h ≡ x
+  unfolding sumFrom
+  sum-done l = rw (drop-of-length-le s l) at e
+
+-- ---- the table that a call hands back
+
+pub made-table : (a b : Making) → a ≡ b → a .table ≡ b .table
+made-table a b e = ap (λ (x : Making). x .table) e
+
+pub opened-table : (a b : Opening) → a ≡ b → a .table ≡ b .table
+opened-table a b e = ap (λ (x : Opening). x .table) e
+
+pub taken-table : (a b : Taking) → a ≡ b → a .table ≡ b .table
+taken-table a b e = ap (λ (x : Taking). x .table) e
+
+pub withdrawn-table : (a b : Withdrawal) → a ≡ b → a .table ≡ b .table
+withdrawn-table a b e = ap (λ (x : Withdrawal). x .table) e
+
+pub ruleset handed-back = (made-table, opened-table, taken-table, withdrawn-table)

@@ -1,0 +1,305 @@
+// The forms of a line. A line has a form where the index after its last field is its end.
+use crate::field::four_hex;
+use crate::field::is_word;
+use crate::field::number;
+use crate::field::plain_hex;
+use bits::word::byte_at;
+use byte_enables::Access;
+use read_rules::continuation::Origin;
+use read_rules::request::ReadRequest;
+use read_rules::validity::Read;
+use text::words::Value;
+use text::words::value_at;
+use tlp::settings::Settings;
+ghost use Prim.Native.Nat.{_≤_, _<_};
+
+pub struct OpenForm {
+    pub request: ReadRequest,
+    pub tag: u32,
+    pub out: u64,
+}
+
+pub struct ForceForm {
+    pub tag: u32,
+    pub read: Read,
+}
+
+// A call of the table. Take holds where the packet's digits stand in the line.
+pub enum Call {
+    New(Origin),
+    Open(OpenForm),
+    Take { from: usize, to: usize },
+    Withdraw(u32),
+    Owed,
+}
+
+// What is done to the part of the store that is lent.
+pub enum StoreForm {
+    Fill(u8),
+    Bytes { from: u64, len: u64 },
+    Sum,
+}
+
+// What reaches into the table, unchecked.
+pub enum SlotForm {
+    Record(u32),
+    Force(ForceForm),
+    Settings(Settings),
+}
+
+pub enum Line {
+    Call(Call),
+    Store(StoreForm),
+    Slot(SlotForm),
+    Length(u64),
+    Bad,
+}
+
+const MOST_8: u64 = 255;
+
+const MOST_32: u64 = 4294967295;
+
+const MOST_64: u64 = 18446744073709551615;
+
+struct SettingsPart {
+    settings: Settings,
+    next: usize,
+}
+
+// The line begins with key.
+fn settings_part(line: &[u8], key: &[u8]) -> SettingsPart {
+    let mps = number(line, 0, key, MOST_32);
+    let mrrs = number(line, mps.next, b" mrrs=", MOST_32);
+    let rcb = number(line, mrrs.next, b" rcb=", MOST_32);
+    SettingsPart {
+        settings: Settings {
+            mps: mps.value as u32,
+            mrrs: mrrs.value as u32,
+            rcb: rcb.value as u32,
+        },
+        next: rcb.next,
+    }
+}
+
+struct AccessPart {
+    access: Access,
+    next: usize,
+}
+
+// The address has the key at index at.
+fn access_part(line: &[u8], at: usize, key: &[u8]) -> AccessPart {
+    let address = plain_hex(line, at, key);
+    let length = number(line, address.next, b" len=", MOST_32);
+    let first = number(line, length.next, b" first=", MOST_8);
+    let last = number(line, first.next, b" last=", MOST_8);
+    AccessPart {
+        access: Access {
+            address: address.value,
+            length: length.value as u32,
+            first: first.value as u8,
+            last: last.value as u8,
+        },
+        next: last.next,
+    }
+}
+
+// A read's fields but for its start, which open and force have at other places.
+struct ReadPart {
+    access: Access,
+    traffic_class: u8,
+    attributes: u8,
+    next: usize,
+}
+
+fn read_part(line: &[u8], at: usize, key: &[u8]) -> ReadPart {
+    let p = access_part(line, at, key);
+    let class = number(line, p.next, b" tc=", MOST_8);
+    let attributes = number(line, class.next, b" attr=", MOST_8);
+    let access = p.access;
+    ReadPart {
+        access: access,
+        traffic_class: class.value as u8,
+        attributes: attributes.value as u8,
+        next: attributes.next,
+    }
+}
+
+fn request_of(p: ReadPart, start: u64) -> ReadRequest {
+    let access = p.access;
+    ReadRequest {
+        access: access,
+        traffic_class: p.traffic_class,
+        attributes: p.attributes,
+        start: start,
+    }
+}
+
+fn new_form(line: &[u8]) -> Line {
+    let p = settings_part(line, b"new mps=");
+    let requester = four_hex(line, p.next, b" req=");
+    if requester.next != line.len() {
+        return Line::Bad;
+    }
+    let settings = p.settings;
+    Line::Call(Call::New(Origin {
+        settings: settings,
+        requester: requester.value as u16,
+    }))
+}
+
+fn store_form(line: &[u8]) -> Line {
+    let len = number(line, 0, b"store len=", MOST_64);
+    if len.next != line.len() {
+        return Line::Bad;
+    }
+    Line::Length(len.value)
+}
+
+fn fill_form(line: &[u8]) -> Line {
+    let byte = number(line, 0, b"fill byte=", MOST_8);
+    if byte.next != line.len() {
+        return Line::Bad;
+    }
+    Line::Store(StoreForm::Fill(byte.value as u8))
+}
+
+fn open_form(line: &[u8]) -> Line {
+    let p = read_part(line, 0, b"open addr=");
+    let tag = number(line, p.next, b" tag=", MOST_32);
+    let start = number(line, tag.next, b" start=", MOST_64);
+    let out = number(line, start.next, b" out=", MOST_64);
+    if out.next != line.len() {
+        return Line::Bad;
+    }
+    Line::Call(Call::Open(OpenForm {
+        request: request_of(p, start.value),
+        tag: tag.value as u32,
+        out: out.value,
+    }))
+}
+
+fn take_form(line: &[u8]) -> Line {
+    let place = value_at(line, 0, b"take tlp=");
+    match place {
+        Value::Missing => Line::Bad,
+        Value::Found { from, to } => {
+            if to != line.len() {
+                return Line::Bad;
+            }
+            Line::Call(Call::Take { from: from, to: to })
+        }
+    }
+}
+
+fn withdraw_form(line: &[u8]) -> Line {
+    let tag = number(line, 0, b"withdraw tag=", MOST_32);
+    if tag.next != line.len() {
+        return Line::Bad;
+    }
+    Line::Call(Call::Withdraw(tag.value as u32))
+}
+
+fn owed_form(line: &[u8]) -> Line {
+    if !is_word(line, b"owed") {
+        return Line::Bad;
+    }
+    Line::Call(Call::Owed)
+}
+
+fn record_form(line: &[u8]) -> Line {
+    let tag = number(line, 0, b"record tag=", MOST_32);
+    if tag.next != line.len() {
+        return Line::Bad;
+    }
+    Line::Slot(SlotForm::Record(tag.value as u32))
+}
+
+fn bytes_form(line: &[u8]) -> Line {
+    let from = number(line, 0, b"bytes from=", MOST_64);
+    let len = number(line, from.next, b" len=", MOST_64);
+    if len.next != line.len() {
+        return Line::Bad;
+    }
+    Line::Store(StoreForm::Bytes {
+        from: from.value,
+        len: len.value,
+    })
+}
+
+fn sum_form(line: &[u8]) -> Line {
+    if !is_word(line, b"sum") {
+        return Line::Bad;
+    }
+    Line::Store(StoreForm::Sum)
+}
+
+fn force_form(line: &[u8]) -> Line {
+    let tag = number(line, 0, b"force tag=", MOST_32);
+    let p = read_part(line, tag.next, b" addr=");
+    let start = number(line, p.next, b" start=", MOST_64);
+    let taken = number(line, start.next, b" taken=", MOST_32);
+    if taken.next != line.len() {
+        return Line::Bad;
+    }
+    Line::Slot(SlotForm::Force(ForceForm {
+        tag: tag.value as u32,
+        read: Read {
+            request: request_of(p, start.value),
+            taken: taken.value as u32,
+        },
+    }))
+}
+
+fn settings_form(line: &[u8]) -> Line {
+    let p = settings_part(line, b"settings mps=");
+    if p.next != line.len() {
+        return Line::Bad;
+    }
+    let settings = p.settings;
+    Line::Slot(SlotForm::Settings(settings))
+}
+
+// Words that begin with s, by their second letter.
+fn s_form(line: &[u8]) -> Line {
+    let letter = byte_at(line, 1);
+    match letter {
+        b't' => store_form(line),
+        b'u' => sum_form(line),
+        b'e' => settings_form(line),
+        _ => Line::Bad,
+    }
+}
+
+fn o_form(line: &[u8]) -> Line {
+    let letter = byte_at(line, 1);
+    match letter {
+        b'p' => open_form(line),
+        b'w' => owed_form(line),
+        _ => Line::Bad,
+    }
+}
+
+fn f_form(line: &[u8]) -> Line {
+    let letter = byte_at(line, 1);
+    match letter {
+        b'i' => fill_form(line),
+        b'o' => force_form(line),
+        _ => Line::Bad,
+    }
+}
+
+// The first letters choose the one form that the line can have.
+pub fn form_of(line: &[u8]) -> Line {
+    let letter = byte_at(line, 0);
+    match letter {
+        b't' => take_form(line),
+        b'o' => o_form(line),
+        b'b' => bytes_form(line),
+        b'r' => record_form(line),
+        b'w' => withdraw_form(line),
+        b'f' => f_form(line),
+        b's' => s_form(line),
+        b'n' => new_form(line),
+        _ => Line::Bad,
+    }
+}
