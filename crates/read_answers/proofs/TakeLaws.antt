@@ -22,8 +22,7 @@ use Rattle.read_slots.specs.declared.State.the-variants.{Free, Open}
 use Rattle.read_slots.specs.Slots.{isOpen}
 use Rattle.read_answers.specs.declared.TakeAnswer.{TakeAnswer}
 use Rattle.read_answers.specs.declared.TakeAnswer.the-variants.{More, Done, Failed, Poisoned, Refused}
-use Rattle.read_answers.specs.Takes.{readIn}
-use Rattle.read_answers.specs.Takes.{pieceRows, ownRows, outcome, numberOr, packetAnswer}
+use Rattle.read_answers.specs.Takes.{readIn, pieceRows, ownRows, outcome, numberOr, packetAnswer}
 
 pub read-case : (x v : State) (r : Read) → x ≡ v → r ≡ readIn v → r ≡ readIn x
 read-case x v r e q = rw e q

@@ -4,13 +4,12 @@ use mathlib.Core.Path.{_≡_}
 use mathlib.Core.Bool.{Bool}
 use Rattle.byte_enables.specs.declared.Access.{Access}
 use Rattle.tlp.specs.PacketTypes.{hasData, familyOf}
-use Rattle.tlp.specs.Packets.{typeOf, accessOf}
+use Rattle.tlp.specs.Packets.{typeOf, accessOf, idOf}
 use Rattle.tlp.specs.declared.packet.CompletionHeader.{CompletionHeader}
 use Rattle.tlp.specs.declared.packet.Kind.{Kind}
 use Rattle.tlp.specs.declared.packet.Packet.{Packet}
 use Rattle.tlp.specs.declared.packet_type.PacketType.{PacketType}
 use Rattle.tlp.specs.declared.packet_type.Family.{Family}
-use Rattle.tlp.specs.Packets.{idOf}
 use Rattle.read_rules.specs.Pieces.{ofCompletions, isCompletion, headerIn, pieceOf}
 use Rattle.read_rules.specs.declared.piece.Piece.{Piece}
 

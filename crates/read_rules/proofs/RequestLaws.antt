@@ -1,32 +1,24 @@
 -- Laws of open's 6, 7 and 8, and of the validity test that repeats them, in the words of the returns.
-use Prim.Native.Nat.{ℕ, _-_, _%_, _^_, _≤_, _<_}
+use Prim.Native.Nat.{ℕ, _-_, _%_, _^_, _<_}
 use mathlib.Core.Path.{_≡_, refl, sym, _∙_}
-use mathlib.Core.Bool.{Bool, true, false, _||_, _&&_, not}
-use mathlib.Core.List.{List, _++_}
+use mathlib.Core.Bool.{Bool, true, false, _||_, not}
+use mathlib.Core.List.{_++_}
 use native.Mathlib.Omega.{arith}
 use lib.Dec.{eqb, leb, ltb}
-use borrow.Author.Tests.{le-leb, lt-leb, ne-eqb}
+use borrow.Author.Tests.{lt-leb, ne-eqb}
 use Rattle.bits.specs.Choice.{pick}
-use Rattle.tlp.specs.Rows.{Row, first}
+use Rattle.tlp.specs.Rows.{first}
 use Rattle.tlp.specs.PacketTypes.{familyOf, isIoOrConfig}
-use Rattle.tlp.specs.Packets.{typeOf, memoryForm}
+use Rattle.tlp.specs.Packets.{typeOf}
 use Rattle.tlp.specs.declared.packet_type.PacketType.the-variants.{MRd32, MRd64}
 use Rattle.tlp.proofs.RowLaws.{some-of, none-of}
-use Rattle.tlp_given.specs.Given.{outside, lengthBad, commonBad, requestBad, ownBad, reservedGiven, addressRouteBad, routeBad}
+use Rattle.tlp_given.specs.Given.{lengthBad, commonBad, requestBad, ownBad, reservedGiven, addressRouteBad, routeBad}
 use Rattle.read_rules.specs.Requests.{requestPacket, givenBad, requestRows}
 use Rattle.read_rules.specs.Windows.{storeLimit, placeRows}
 use Rattle.read_rules.specs.Validity.{validRead, owedOf}
 use Rattle.read_rules.specs.declared.request.ReadRequest.{ReadRequest}
 use Rattle.read_rules.specs.declared.validity.Read.{Read}
 use Rattle.tlp.specs.declared.settings.Settings.{Settings}
-
-pub length-below : (n : ℕ) → n < 1 → true ≡ lengthBad n
-length-below n h = rw (lt-leb 1 n h)
-
-pub length-above : (n : ℕ) → 1 ≤ n → not (leb n 1024) ≡ lengthBad n
-length-above n h = rw (le-leb 1 n h)
-
-pub ruleset length-laws = (length-below, length-above)
 
 -- a memory request is neither I/O nor configuration, in either form
 plain-form : (b : Bool) → isIoOrConfig (familyOf (pick b MRd32 MRd64)) ≡ false
@@ -55,9 +47,6 @@ given-law r q h e =
 -- ---- validity
 
 module _ (s : Settings) (x : Read) where
-  rows-of : List Row
-  rows-of = requestRows (x .request) ++ placeRows s (x .request) storeLimit
-
   pub valid-not-request : (n : ℕ) → n ≡ first (requestRows (x .request)) → (n ≡ 0 → ⊥) → false ≡ validRead s x
   unfolding validRead
   valid-not-request n e h =

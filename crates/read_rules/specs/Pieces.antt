@@ -2,14 +2,13 @@
 use Prim.Native.Nat.{ℕ}
 use mathlib.Core.Bool.{Bool, true, false}
 use Rattle.tlp.specs.PacketTypes.{hasData, familyOf}
-use Rattle.tlp.specs.Packets.{typeOf, accessOf}
+use Rattle.tlp.specs.Packets.{typeOf, accessOf, idOf}
 use Rattle.tlp.specs.declared.packet.CompletionHeader.{CompletionHeader}
 use Rattle.tlp.specs.declared.packet.Kind.{Kind}
 use Rattle.tlp.specs.declared.packet.Kind.the-variants.{MemoryRead, MemoryWrite, IoRead, IoWrite, ConfigRead0, ConfigWrite0, ConfigRead1, ConfigWrite1, Message, MessageData, Completion, CompletionData}
 use Rattle.tlp.specs.declared.packet.Packet.{Packet}
 use Rattle.tlp.specs.declared.packet_type.Family.{Family}
 use Rattle.tlp.specs.declared.packet_type.Family.the-variants.{Memory, Io, Config, Message as OfMessages, Completion as OfCompletions, Unlisted}
-use Rattle.tlp.specs.Packets.{idOf}
 use Rattle.read_rules.specs.declared.piece.Piece.{Piece}
 
 abbrev pub ofCompletions : Family → Bool

@@ -6,9 +6,9 @@ use tlp::packet::Kind;
 use tlp::packet::Packet;
 use tlp::packet::Request;
 use tlp::packet::Route;
+use tlp_given::outside_of;
 ghost use mathlib.Core.Path.{_≡_};
 ghost use Rattle.tlp.specs.Rows.{first};
-ghost use Rattle.tlp_given.specs.Given.{lengthBad};
 ghost use Rattle.read_rules.specs.Requests.{requestPacket, givenBad, requestRows};
 
 // What open gets of a read: address, length and enables, traffic class, attributes, and where its window starts in the store.
@@ -41,15 +41,6 @@ pub fn request_packet(requester: u16, tag: u8, q: ReadRequest) -> Packet
     }
 }
 
-fn length_bad(n: u32) -> bool
-    ensures { λ r. ⌜ r ≡ lengthBad n ⌝ }
-{
-    if 1 <= n {
-        return !(n <= 1024);
-    }
-    true
-}
-
 // The writer's first place for 6.
 fn given_bad(q: ReadRequest) -> bool
     ensures { λ r. ⌜ r ≡ givenBad q ⌝ }
@@ -61,7 +52,7 @@ fn given_bad(q: ReadRequest) -> bool
     if 8 <= q.attributes {
         return true;
     }
-    if length_bad(a.length) {
+    if outside_of(1024, a.length) {
         return true;
     }
     if 16 <= a.first {

@@ -20,9 +20,8 @@ use Rattle.reads.specs.declared.table.Taking.{Taking}
 use Rattle.read_answers.specs.declared.TakeAnswer.{TakeAnswer}
 use Rattle.read_answers.specs.declared.TakeAnswer.the-variants.{More, Unread, Refused}
 use Rattle.reads.specs.Tables.{stateAt, withState, validTable}
-use Rattle.read_answers.specs.Takes.{readIn}
+use Rattle.read_answers.specs.Takes.{readIn, tagOf, packetAnswer}
 use Rattle.reads.specs.TakeCall.{advanced, tableGiven, storeGiven, packetTaking, packetStore, takeCall, takeStore}
-use Rattle.read_answers.specs.Takes.{tagOf, packetAnswer}
 
 -- ---- what an answer does to table and store
 

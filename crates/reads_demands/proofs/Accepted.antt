@@ -33,8 +33,7 @@ use Rattle.reads.specs.OpenCall.{headerPacket, openRows, openAnswer, openCall}
 use Rattle.reads.specs.TakeCall.{takeCall}
 use Rattle.reads.specs.OtherCalls.{withdrawCall}
 use Rattle.cuttings.specs.Lawful.{pieceIn}
-use Rattle.reads_demands.specs.History.{Call, opening, taking, withdrawing, asking}
-use Rattle.reads_demands.specs.History.{Change, keeps, opens, adds, closes, openChange, takeChange, withdrawChange, eventTag, eventChange, change}
+use Rattle.reads_demands.specs.History.{Call, opening, taking, withdrawing, asking, Change, keeps, opens, adds, closes, openChange, takeChange, withdrawChange, eventTag, eventChange, change}
 use Rattle.reads_demands.specs.Demand2.{Continues}
 use Rattle.reads_demands.specs.Demand3.{answered}
 use Rattle.reads_demands.proofs.Tests.{neither}

@@ -36,8 +36,7 @@ use Rattle.reads.specs.TakeCall.{takeCall, takeStore}
 use Rattle.reads.specs.OtherCalls.{withdrawCall}
 use Rattle.cuttings.specs.Lawful.{pieceIn, payloadIn, after, cleanPacket, lawfulFrom, lawfulCutting, joined}
 use Rattle.cuttings.proofs.PieceByPiece.{piece-by-piece}
-use Rattle.reads_demands.specs.History.{Call, opening, taking, withdrawing, asking, takeEvent, eventTag, eventChange, change, doublewords}
-use Rattle.reads_demands.specs.History.{keeps, opens, openChange, takeChange, withdrawChange}
+use Rattle.reads_demands.specs.History.{Call, opening, taking, withdrawing, asking, takeEvent, eventTag, eventChange, change, doublewords, keeps, opens, openChange, takeChange, withdrawChange}
 use Rattle.reads_demands.specs.Demand2.{Continues}
 use Rattle.reads_demands.specs.Demand3.{next, answered, lent, left, run, Item, other, piece, calls, pieces, Harmless, Undisturbed, SameWindow, orLast, SameStore, AllMore, Delivered, Outside}
 use Rattle.reads_demands.proofs.LawfulPieces.{next-piece}

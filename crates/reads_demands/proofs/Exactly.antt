@@ -30,10 +30,9 @@ use Rattle.reads.specs.declared.answer.OwedAnswer.the-variants.{Owed, Refused a
 use Rattle.reads.specs.declared.answer.MakeAnswer.the-variants.{Made, Refused as MakeRefused}
 use Rattle.reads.specs.Answers.{openSaid, takeSaid, owedSaid, makeNumber, openNumber, takeNumber, withdrawNumber, owedNumber}
 use Rattle.reads.specs.Tables.{stateAt, newTable, validTable}
-use Rattle.read_answers.specs.Takes.{readIn}
+use Rattle.read_answers.specs.Takes.{readIn, tagOf, ownRows, outcome, numberOr, packetAnswer}
 use Rattle.reads.specs.OpenCall.{headerPacket, openRows, openAnswer, openCall}
 use Rattle.reads.specs.TakeCall.{packetTaking, answerTaking, takeCall}
-use Rattle.read_answers.specs.Takes.{tagOf, ownRows, outcome, numberOr, packetAnswer}
 use Rattle.reads.specs.OtherCalls.{makeCall, withdrawRows, withdrawAnswer, withdrawCall, owedCall}
 use Rattle.cuttings.specs.Lawful.{packetIn, pieceIn}
 use Rattle.reads_demands.specs.Demand1.{takeRows, owedRows, makeRows, Demand1}

@@ -28,9 +28,8 @@ use Rattle.reads.specs.declared.table.Taking.{Taking}
 use Rattle.read_answers.specs.declared.TakeAnswer.{TakeAnswer}
 use Rattle.read_answers.specs.declared.TakeAnswer.the-variants.{More, Done, Failed, Poisoned, Unread, Refused}
 use Rattle.reads.specs.Tables.{stateAt, validTable}
-use Rattle.read_answers.specs.Takes.{readIn}
+use Rattle.read_answers.specs.Takes.{readIn, tagOf, ownRows, outcome, numberOr, packetAnswer}
 use Rattle.reads.specs.TakeCall.{packetTaking, packetStore, answerTaking, answerStore, tableGiven, storeGiven, takeCall, takeStore}
-use Rattle.read_answers.specs.Takes.{tagOf, ownRows, outcome, numberOr, packetAnswer}
 use Rattle.cuttings.specs.Lawful.{packetIn, pieceIn, payloadIn, cleanPacket}
 use Rattle.reads_demands.specs.Demand2.{Continues}
 use Rattle.reads_demands.proofs.Tests.{neither, asked}

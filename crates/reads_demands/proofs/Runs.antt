@@ -23,8 +23,7 @@ use Rattle.read_slots.specs.declared.State.the-variants.{Free, Open}
 use Rattle.read_slots.specs.Slots.{freeSlot, validState, validSlot, sharesIn}
 use Rattle.reads.specs.declared.table.Table.{Table}
 use Rattle.reads.specs.Tables.{capacity, tagLimit, newTable, stateAt, withState, validTable}
-use Rattle.reads_demands.specs.History.{Call, Event}
-use Rattle.reads_demands.specs.History.{Change, keeps, opens, adds, closes, eventTag, eventChange, change}
+use Rattle.reads_demands.specs.History.{Call, Event, Change, keeps, opens, adds, closes, eventTag, eventChange, change}
 use Rattle.reads_demands.specs.Demand3.{next, answered, run}
 use Rattle.reads_demands.proofs.Limits.{either, limitOf, slotState, state-below, state-over, slot-new, state-new, size-new, size-with, slot-with-free, state-with}
 use Rattle.reads_demands.proofs.Steps.{afterChange, moved, next-moved}

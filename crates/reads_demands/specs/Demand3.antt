@@ -22,8 +22,7 @@ use Rattle.reads.specs.OpenCall.{openCall, openOut}
 use Rattle.reads.specs.TakeCall.{takeCall, takeStore}
 use Rattle.reads.specs.OtherCalls.{withdrawCall, owedCall}
 use Rattle.cuttings.specs.Lawful.{pieceIn, lawfulCutting, joined}
-use Rattle.reads_demands.specs.History.{Call, opening, taking, withdrawing, asking, Event, openEvent, takeEvent, withdrawEvent, owedEvent}
-use Rattle.reads_demands.specs.History.{History, openRequest, takenPieces, recordOf, answersOf}
+use Rattle.reads_demands.specs.History.{Call, opening, taking, withdrawing, asking, Event, openEvent, takeEvent, withdrawEvent, owedEvent, History, openRequest, takenPieces, recordOf, answersOf}
 
 -- ---- the table's step: the definitions that the calls of crate reads are equal to
 

@@ -15,7 +15,8 @@ ghost use Rattle.tlp.specs.Rows.{first};
 ghost use Rattle.tlp_given.specs.Given.{over, outside, commonBad, requestBad, configBad, messageBad, completionBad, ownBad, reservedGiven, addressRouteBad, idRouteBad, messageRouteBad, routeBad};
 ghost use Rattle.tlp_given.specs.Given.{givenRows};
 
-fn outside_of(most: u32, n: u32) -> bool
+// Whether a number is outside 1..most.
+pub fn outside_of(most: u32, n: u32) -> bool
     ensures { λ r. ⌜ r ≡ outside most n ⌝ }
 {
     if 1 <= n {

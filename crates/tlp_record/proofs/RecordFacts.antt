@@ -19,8 +19,7 @@ use Rattle.tlp.specs.declared.packet.CompletionHeader.{CompletionHeader}
 use Rattle.tlp.specs.declared.packet.Kind.{Kind}
 use Rattle.tlp.specs.declared.packet.Kind.the-variants.{MemoryRead, MemoryWrite, IoRead, IoWrite, ConfigRead0, ConfigWrite0, ConfigRead1, ConfigWrite1, Message, MessageData, Completion, CompletionData}
 use Rattle.tlp.specs.declared.packet.Packet.{Packet}
-use Rattle.tlp_given.specs.Given.{lengthBad, requestBad, configBad, messageBad, completionBad, ownBad, addressRouteBad, idRouteBad, messageRouteBad, routeBad}
-use Rattle.tlp_given.specs.Given.{givenRows}
+use Rattle.tlp_given.specs.Given.{lengthBad, requestBad, configBad, messageBad, completionBad, ownBad, addressRouteBad, idRouteBad, messageRouteBad, routeBad, givenRows}
 use Rattle.tlp.specs.Rows.{NoneHold}
 use Rattle.tlp_trip.proofs.Tests.{left-no, right-no}
 use Rattle.tlp_trip.proofs.Fits.{fits, inside, request-fits, config-fits, message-fits, completion-fits, common-fits}

@@ -4,7 +4,7 @@ use Prim.Native.Nat.{ℕ, zero, suc}
 use mathlib.Core.Bool.{Bool, true, false, _&&_}
 use mathlib.Core.List.{List, [], _∷_, _++_}
 use lib.Dec.{eqb}
-use Rattle.bits.specs.Choice.{pick}
+use Rattle.bits.specs.Choice.{pick, flag}
 use Rattle.bits.specs.Word.{byte, word, bytes}
 use Rattle.tlp.specs.declared.packet.Implicit.{Implicit}
 use Rattle.tlp.specs.declared.packet.Implicit.the-variants.{Root, Broadcast, Local, Gathered}
@@ -18,7 +18,6 @@ use Rattle.tlp.specs.declared.packet.Kind.{Kind}
 use Rattle.tlp.specs.declared.packet.Kind.the-variants.{MemoryRead, MemoryWrite, IoRead, IoWrite, ConfigRead0, ConfigWrite0, ConfigRead1, ConfigWrite1, Message, MessageData, Completion, CompletionData}
 use Rattle.tlp.specs.declared.packet.Packet.{Packet}
 use Rattle.tlp.specs.Packets.{idOf}
-use Rattle.bits.specs.Choice.{flag}
 use Rattle.tlp_record.specs.declared.OwnFields.{OwnFields}
 use Rattle.tlp_record.specs.declared.RecordAnswer.{RecordAnswer}
 use Rattle.tlp_record.specs.declared.RecordAnswer.the-variants.{Described, NoRecord}

@@ -11,7 +11,7 @@ use Rattle.bits.specs.Choice.{pick}
 use Rattle.bits.specs.Field.{low}
 use Rattle.bits.specs.Word.{byte, word, bytes}
 use Rattle.tlp.specs.PacketTypes.{typeAt, headerDw, firstByte, familyOf, isUnlisted}
-use Rattle.tlp.specs.Packets.{addressOf, typeIn, accessIn}
+use Rattle.tlp.specs.Packets.{addressOf, typeIn, accessIn, idOf}
 use Rattle.tlp.specs.Sizes.{lengthAt, dataBytes}
 use Rattle.tlp.specs.declared.packet.Implicit.the-variants.{Root, Broadcast, Local, Gathered}
 use Rattle.tlp.specs.declared.packet.Route.{Route}
@@ -25,7 +25,6 @@ use Rattle.tlp.specs.declared.packet_type.PacketType.the-variants.{MRd32, MRd64
 use Rattle.tlp_read.specs.Fields.{requestAt, routeAt, kindAt}
 use Rattle.tlp_read.specs.Read.{routingBad, formBad}
 use Rattle.tlp_write.specs.Layout.{routing, routingIn, requestBytes, memoryAddress, ownBytes}
-use Rattle.tlp.specs.Packets.{idOf}
 use Rattle.tlp_given.specs.Given.{lengthBad, requestBad, configBad, ownBad, routeBad}
 use Rattle.tlp_trip.proofs.Tests.{left-no, right-no}
 use Rattle.tlp_trip.proofs.Fits.{request-fits, config-fits}

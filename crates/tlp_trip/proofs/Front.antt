@@ -8,7 +8,7 @@ use native.Mathlib.Omega.{arith}
 use native.Mathlib.Nat.{eq-or-lt-of-le, mod-self, mod-eq-of-lt}
 use lib.Dec.{eqb}
 use borrow.Author.Tests.{eq-eqb, ne-eqb, eqb-true, not-false}
-use Rattle.bits.specs.Choice.{pick}
+use Rattle.bits.specs.Choice.{pick, flag}
 use Rattle.bits.specs.Field.{field, low}
 use Rattle.bits.proofs.FieldLaws.{field-at}
 use Rattle.tlp.specs.PacketTypes.{familyOf, isIoOrConfig}
@@ -17,7 +17,6 @@ use Rattle.tlp.specs.Sizes.{orMost, lengthAt, digestAt}
 use Rattle.tlp.specs.declared.packet.Packet.{Packet}
 use Rattle.tlp_read.specs.Fields.{trafficClassAt, attributesAt, hintAt, addressTypeAt, poisonedAt}
 use Rattle.tlp_write.specs.Layout.{frontBytes}
-use Rattle.bits.specs.Choice.{flag}
 use Rattle.tlp_given.specs.Given.{lengthBad, reservedGiven}
 use Rattle.tlp_trip.proofs.Fits.{CommonFits, inside}
 

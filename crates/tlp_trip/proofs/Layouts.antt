@@ -11,7 +11,7 @@ use Rattle.bits.specs.Field.{field, low}
 use Rattle.bits.specs.Word.{word, bytes}
 use Rattle.bits.proofs.FieldLaws.{field-at}
 use Rattle.bits.proofs.WordLaws.{word-bytes}
-use Rattle.tlp.specs.Packets.{addressOf}
+use Rattle.tlp.specs.Packets.{addressOf, idOf}
 use Rattle.tlp.specs.Sizes.{lengthAt}
 use Rattle.tlp.specs.declared.packet.Implicit.the-variants.{Root, Broadcast, Local, Gathered}
 use Rattle.tlp.specs.declared.packet.Route.{Route}
@@ -22,7 +22,6 @@ use Rattle.tlp.specs.declared.packet.MessageRequest.{MessageRequest}
 use Rattle.tlp.specs.declared.packet.CompletionHeader.{CompletionHeader}
 use Rattle.tlp_read.specs.Fields.{requestAt, configAt, messageAt, completionAt, implicitAt, messageRouteAt}
 use Rattle.tlp_write.specs.Layout.{routing, requestBytes, configBytes, messageBytes, completionBytes}
-use Rattle.tlp.specs.Packets.{idOf}
 use Rattle.bits.specs.Choice.{flag}
 use Rattle.tlp_given.specs.Given.{over, lengthBad, requestBad, configBad, messageBad, completionBad, addressRouteBad, idRouteBad, messageRouteBad}
 use Rattle.tlp_trip.proofs.Tests.{left-no, right-no}

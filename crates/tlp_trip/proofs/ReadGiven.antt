@@ -21,8 +21,7 @@ use Rattle.tlp.specs.declared.packet.Route.the-variants.{Address, Id, Implicit 
 use Rattle.tlp.specs.declared.packet_type.PacketType.{PacketType}
 use Rattle.tlp.specs.declared.packet_type.PacketType.the-variants.{MRd32, MRd64, MWr32, MWr64, IORd, IOWr, CfgRd0, CfgWr0, CfgRd1, CfgWr1, Msg, MsgD, Cpl, CplD, Unlisted}
 use Rattle.tlp_read.specs.Fields.{packetAt, attributesAt, digestWord, implicitAt, routingAt, messageRouteAt, routeAt, kindAt, requestAt, configAt, messageAt, completionAt}
-use Rattle.tlp_given.specs.Given.{over, lengthBad, commonBad, requestBad, configBad, messageBad, completionBad, ownBad, reservedGiven, addressRouteBad, idRouteBad, messageRouteBad, routeBad}
-use Rattle.tlp_given.specs.Given.{givenRows}
+use Rattle.tlp_given.specs.Given.{over, lengthBad, commonBad, requestBad, configBad, messageBad, completionBad, ownBad, reservedGiven, addressRouteBad, idRouteBad, messageRouteBad, routeBad, givenRows}
 use Rattle.tlp_trip.specs.RoundTrips.{Bytes}
 use Rattle.tlp.specs.Rows.{NoneHold}
 use Rattle.tlp_trip.proofs.Tests.{or-false}

@@ -11,12 +11,11 @@ use lib.Dec.{eqb}
 use lib.ListN.{length, drop}
 use lib.Seq.{drop-cons}
 use borrow.Author.Tests.{eqb-true}
-use Rattle.bits.specs.Choice.{pick}
+use Rattle.bits.specs.Choice.{pick, flag}
 use Rattle.bits.specs.Field.{field, low, bit}
 use Rattle.bits.specs.Word.{byte}
 use Rattle.tlp.specs.PacketTypes.{typeAt, firstByte, familyOf, isUnlisted, isMessage}
 use Rattle.tlp.specs.Reserved.{masked}
-use Rattle.bits.specs.Choice.{flag}
 
 -- ---- a list under masks, byte by byte
 

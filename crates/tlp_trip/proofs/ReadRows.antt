@@ -7,7 +7,7 @@ use lib.Dec.{eqb, ltb}
 use lib.ListN.{length}
 use borrow.Author.Tests.{ltb-false, eqb-true, not-false}
 use Rattle.bits.specs.Word.{byte}
-use Rattle.tlp.specs.Rows.{row, first}
+use Rattle.tlp.specs.Rows.{row, first, NoneHold}
 use Rattle.tlp.specs.Settings.{settingsListed}
 use Rattle.tlp.specs.PacketTypes.{typeAt, headerDw, familyOf, isUnlisted}
 use Rattle.tlp.specs.Sizes.{bytesCalled}
@@ -18,7 +18,6 @@ use Rattle.tlp.specs.declared.packet_type.PacketType.{PacketType}
 use Rattle.tlp_read.specs.Fields.{addressTypeAt, packetAt}
 use Rattle.tlp_read.specs.Read.{readPacket, readRows, answerOf, hintsBad, routingBad, formBad}
 use Rattle.tlp_read.specs.declared.ReadAnswer.the-variants.{Accepted}
-use Rattle.tlp.specs.Rows.{NoneHold}
 use Rattle.tlp.proofs.RowLaws.{first-none, none-split}
 
 -- bytes of type t in which no row of the reader's table holds

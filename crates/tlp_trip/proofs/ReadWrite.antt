@@ -14,7 +14,7 @@ use Rattle.bits.specs.Word.{byte, word, bytes}
 use Rattle.bits.proofs.WordLaws.{bytes-word}
 use Rattle.byte_enables.specs.declared.Access.{Access}
 use Rattle.tlp.specs.PacketTypes.{typeAt, headerDw, familyOf, isIoOrConfig}
-use Rattle.tlp.specs.Rows.{row}
+use Rattle.tlp.specs.Rows.{row, NoneHold}
 use Rattle.tlp.specs.Packets.{accessOf}
 use Rattle.tlp.specs.Sizes.{lengthAt, digestAt, dataBytes, digestBytes, bytesCalled}
 use Rattle.tlp.specs.Contents.{contentRows, plainBad, notPlain}
@@ -29,7 +29,6 @@ use Rattle.tlp_write.specs.Write.{writeRows, writePacket}
 use Rattle.tlp_given.specs.Given.{givenRows}
 use Rattle.tlp_write.specs.declared.WriteAnswer.the-variants.{Written}
 use Rattle.tlp_trip.specs.RoundTrips.{Bytes, ReadThenWrite}
-use Rattle.tlp.specs.Rows.{NoneHold}
 use Rattle.tlp.proofs.RowLaws.{none-first, none-join}
 use Rattle.tlp_trip.proofs.ReadRows.{Sound, accepted}
 use Rattle.tlp_trip.proofs.ReadMasks.{masked-under}

@@ -13,7 +13,7 @@ use Rattle.bits.specs.Word.{byte, word, bytes}
 use Rattle.bits.proofs.WordLaws.{word-bytes}
 use Rattle.tlp.specs.PacketTypes.{typeAt, headerDw, familyOf, isMemory}
 use Rattle.tlp.specs.Packets.{typeOf, accessOf}
-use Rattle.tlp.specs.Rows.{first}
+use Rattle.tlp.specs.Rows.{first, NoneHold}
 use Rattle.tlp.specs.Sizes.{lengthAt, dataBytes, digestBytes, bytesCalled}
 use Rattle.tlp.specs.Settings.{settingsListed}
 use Rattle.tlp.specs.Contents.{contentRows}
@@ -27,7 +27,6 @@ use Rattle.tlp_given.specs.Given.{commonBad, ownBad, reservedGiven, routeBad}
 use Rattle.tlp_write.specs.Write.{writeRows, writeAnswer, writePacket}
 use Rattle.tlp_write.specs.declared.WriteAnswer.the-variants.{Written}
 use Rattle.tlp_trip.specs.RoundTrips.{WriteThenRead}
-use Rattle.tlp.specs.Rows.{NoneHold}
 use Rattle.tlp.proofs.RowLaws.{none-first, first-none}
 use Rattle.tlp_trip.proofs.Fits.{common-fits}
 use Rattle.tlp_trip.proofs.Front.{FrontBack, front-back}

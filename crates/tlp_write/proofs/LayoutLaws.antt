@@ -9,11 +9,11 @@ use lib.Dec.{ltb, lit≤}
 use lib.ListN.{length, getD, take, drop, length-take}
 use lib.Seq.{drop-cons, drop-length, take-take, take-append-seam}
 use borrow.Author.Tests.{lt-ltb, le-ltb}
-use Rattle.bits.specs.Choice.{pick}
+use Rattle.bits.specs.Choice.{pick, flag}
 use Rattle.bits.specs.Word.{bytes}
 use Rattle.byte_enables.specs.declared.Access.{Access}
 use Rattle.tlp.specs.PacketTypes.{firstByte, headerDw}
-use Rattle.tlp.specs.Packets.{addressOf, memoryForm, typeIn, typeOf, accessOf}
+use Rattle.tlp.specs.Packets.{addressOf, memoryForm, typeIn, typeOf, accessOf, idOf}
 use Rattle.tlp.proofs.Bounds.{header-le}
 use Rattle.tlp.specs.declared.packet_type.PacketType.{PacketType}
 use Rattle.tlp.specs.declared.packet_type.PacketType.the-variants.{MRd32, MRd64, MWr32, MWr64, IORd, IOWr, CfgRd0, CfgWr0, CfgRd1, CfgWr1, Msg, MsgD, Cpl, CplD, Unlisted}
@@ -26,8 +26,6 @@ use Rattle.tlp.specs.declared.packet.Kind.{Kind}
 use Rattle.tlp.specs.declared.packet.Kind.the-variants.{MemoryRead, MemoryWrite, IoRead, IoWrite, ConfigRead0, ConfigWrite0, ConfigRead1, ConfigWrite1, Message, MessageData, Completion, CompletionData}
 use Rattle.tlp.specs.declared.packet.Packet.{Packet}
 use Rattle.tlp_write.specs.Layout.{routingIn, requestBytes, memoryAddress, configBytes, messageBytes, completionBytes, ownBytes, frontBytes, headerOf, digestOf}
-use Rattle.tlp.specs.Packets.{idOf}
-use Rattle.bits.specs.Choice.{flag}
 use Rattle.tlp_write.specs.Padded.{padded}
 use Rattle.bits.specs.Put.{put}
 use Rattle.tlp_write.proofs.PutLaws.{put-nothing}

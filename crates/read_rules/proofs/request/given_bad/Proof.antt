@@ -11,8 +11,8 @@ returns c = given-law _ _ (omega arith) (search or-laws depth 8)
 returns-2 : tie.Need-returns-2
 returns-2 c = given-law _ _ (omega arith) (search or-laws depth 8)
 
-length-bad-requires : tie.Need-length-bad-requires
-length-bad-requires c κs = search needs
+outside-of-requires : tie.Need-outside-of-requires
+outside-of-requires c κs = search needs
 
 returns-3 : tie.Need-returns-3
 returns-3 c = given-law _ _ (omega arith) (search or-laws depth 8)
@@ -29,4 +29,4 @@ returns-6 c = given-law _ _ (omega arith) (search or-laws depth 8)
 pub given-bad-spec : {M : Type 1} → statement M
 given-bad-spec =
     tie.close
-    (tie.spec returns returns-2 length-bad-requires returns-3 returns-4 returns-5 returns-6)
+    (tie.spec returns returns-2 outside-of-requires returns-3 returns-4 returns-5 returns-6)
