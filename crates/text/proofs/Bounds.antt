@@ -5,10 +5,11 @@ use mathlib.Core.Bool.{Bool, true, false, _&&_, not}
 use mathlib.Core.Logic.{⊎-elim}
 use mathlib.Core.List.{List, [], _∷_}
 use mathlib.Core.Option.{Option, some, none}
+use native.Mathlib.Nat.{one-le-pow, zero-lt-suc}
 use native.Mathlib.Omega.{arith}
 use lib.Dec.{leb, ltb, eqb}
 use lib.ListN.{length, drop, length-append, length-take, length-drop}
-use borrow.Author.Tests.{leb-true, ltb-true, le-leb, lt-leb}
+use borrow.Author.Tests.{leb-true, ltb-true, le-leb, lt-leb, lt-ltb, eqb-true}
 use Rattle.bits.specs.Choice.{pick}
 use Rattle.bits.specs.Put.{put}
 use Rattle.text.specs.Laid.{fits, laid, after}
@@ -17,12 +18,14 @@ use Rattle.text.specs.Number.{value, plain, plainly, empty, numberIn}
 use Rattle.text.specs.Hex.{hexNumber, spelledAnswer}
 use Rattle.text.specs.Decimal.{decimalNumber}
 use Rattle.text.specs.Words.{wordLength, wordEnd, startsWith, valueAt}
+use Rattle.text.specs.Fields.{badField, parsedField, between, decimalIn, hexIn, decimalAfter, hexAfter}
 use Rattle.text.specs.declared.number.Parsed.{Parsed}
 use Rattle.text.specs.declared.number.Parsed.the-variants.{Number, Bad}
 use Rattle.text.specs.declared.hex.Spelled.{Spelled}
 use Rattle.text.specs.declared.hex.Spelled.the-variants.{Bytes, Bad as NoBytes}
 use Rattle.text.specs.declared.words.Value.{Value}
 use Rattle.text.specs.declared.words.Value.the-variants.{Found, Missing}
+use Rattle.text.specs.declared.fields.Field.{Field}
 use Rattle.text.proofs.Order.{lt-or-le, and-right}
 use Rattle.text.proofs.HexLaws.{value-lt}
 use Rattle.text.proofs.WordLaws.{starts-le}
@@ -86,6 +89,46 @@ found-bounds s key at from to v d e =
     let a : at + length key ≡ from = cc (f .1) in
     let z : wordEnd s (at + length key) ≡ to = cc (f .1) in
     (a, (omega arith, omega (arith, end-le s (at + length key))))
+
+-- ---- fields
+
+-- a bad field's value is 0
+bad-or : (t : Bool) (f : Field) (k : ℕ) → 0 < k → (t ≡ true → f .value < k) → pick t f badField .value < k
+bad-or true f k z h = h refl
+bad-or false f k z h = z
+
+parsed-lt : (p q : Parsed) (next k : ℕ) → q ≡ p → 0 < k → ((n : ℕ) → q ≡ Number n → n < k) → parsedField p next .value < k
+parsed-lt (Number n) q next k e z h = h n e
+parsed-lt Bad q next k e z h = z
+
+some-16 : (width : ℕ) → 0 < 16 ^ width
+some-16 width = one-le-pow width 16 (zero-lt-suc 15)
+
+module _ (s key : List ℕ) (before r : Field) where
+  decimal-in-lt : (most : ℕ) (v : Value) → decimalIn s most v .value < suc most
+  decimal-in-lt most (Found from to) =
+      let p : Parsed = decimalNumber most (between s from to) in
+      parsed-lt p p to (suc most) refl (omega arith) (λ (n : ℕ) (h : p ≡ Number n). decimal-lt most n (suc most) (between s from to) p refl h (lt-ltb most (suc most) (omega arith)))
+  decimal-in-lt most Missing = omega arith
+
+  pub decimal-after-le : (most : ℕ) → r ≡ decimalAfter s before key most → r .value ≤ most
+  unfolding decimalAfter
+  decimal-after-le most e =
+      let v : Value = valueAt s (before .next) key in
+      omega (arith, ap (λ (f : Field). f .value) e, bad-or (before .good) (decimalIn s most v) (suc most) (omega arith) (λ (g : before .good ≡ true). decimal-in-lt most v))
+
+  hex-in-lt : (width : ℕ) (v : Value) → hexIn s width v .value < 16 ^ width
+  hex-in-lt width (Found from to) =
+      let digits : List ℕ = between s from to in
+      let p : Parsed = hexNumber digits in
+      bad-or (eqb (length digits) width) (parsedField p to) (16 ^ width) (some-16 width) (λ (g : eqb (length digits) width ≡ true). parsed-lt p p to (16 ^ width) refl (some-16 width) (λ (n : ℕ) (h : p ≡ Number n). hex-lt n width (16 ^ width) digits p refl h (eqb-true (length digits) width g) (le-leb (16 ^ width) (16 ^ width) (omega arith))))
+  hex-in-lt width Missing = some-16 width
+
+  pub hex-after-lt : (width : ℕ) → r ≡ hexAfter s before key width → r .value < 16 ^ width
+  unfolding hexAfter
+  hex-after-lt width e =
+      let v : Value = valueAt s (before .next) key in
+      omega (arith, ap (λ (f : Field). f .value) e, bad-or (before .good) (hexIn s width v) (16 ^ width) (some-16 width) (λ (g : before .good ≡ true). hex-in-lt width v))
 
 -- ---- outputs
 

@@ -1,7 +1,7 @@
 -- Digits as letters and as values.
-use Prim.Native.Nat.{ℕ, _+_, _-_, _%_, _≤_, _<_}
+use Prim.Native.Nat.{ℕ, _+_, _-_, _%_, _^_, _≤_, _<_, min}
 use mathlib.Core.Path.{_≡_, sym, _∙_}
-use mathlib.Core.Bool.{Bool, true, false, _&&_}
+use mathlib.Core.Bool.{Bool, true, _&&_, and-true, and-assoc}
 use mathlib.Core.Logic.{⊎-elim}
 use mathlib.Core.List.{List}
 use native.Mathlib.Numerals.{add-one}
@@ -13,10 +13,10 @@ use borrow.Author.Tests.{lt-ltb, le-ltb, le-leb, lt-leb, ltb-true}
 use Rattle.text.proofs.Order.{lt-or-le, and-left, and-right}
 use Rattle.text.specs.Digit.{hexValue, hexDigit, allDigits}
 
--- one law for each return
+-- the value by the byte's place
 
 module _ (b : ℕ) where
-  pub value-below : b < 48 → 16 ≡ hexValue b
+  value-below : b < 48 → 16 ≡ hexValue b
   unfolding hexValue
   value-below h = rw (lt-leb 48 b h, lt-leb 97 b (omega arith))
 
@@ -24,7 +24,7 @@ module _ (b : ℕ) where
   unfolding hexValue
   value-number h k = rw (le-leb 48 b h, le-leb b 57 k)
 
-  pub value-between : 48 ≤ b → 57 < b → b < 97 → 16 ≡ hexValue b
+  value-between : 48 ≤ b → 57 < b → b < 97 → 16 ≡ hexValue b
   unfolding hexValue
   value-between g h k = rw (le-leb 48 b g, lt-leb b 57 h, lt-leb 97 b k)
 
@@ -32,9 +32,26 @@ module _ (b : ℕ) where
   unfolding hexValue
   value-letter g h k = rw (le-leb 48 b (omega arith), lt-leb b 57 g, le-leb 97 b h, le-leb b 102 k)
 
-  pub value-above : 102 < b → 16 ≡ hexValue b
+  value-above : 102 < b → 16 ≡ hexValue b
   unfolding hexValue
   value-above h = rw (le-leb 48 b (omega arith), lt-leb b 57 (omega arith), le-leb 97 b (omega arith), lt-leb b 102 h)
+
+-- one law for each return, where number is b less 48 and letter is b less 97, wrapped around
+
+module _ (b number : ℕ) (e : (number + 48) % 2 ^ 8 ≡ b) (h : number < 2 ^ 8) where
+  pub value-low : number < 10 → number ≡ hexValue b
+  value-low l = rw (← value-number b (omega arith) (omega arith)) (omega arith)
+
+  pub value-high : (letter d : ℕ) → (letter + 97) % 2 ^ 8 ≡ b → letter < 2 ^ 8 → d ≡ min letter 6 → 10 ≤ number → 10 + d ≡ hexValue b
+  value-high letter d f k g l =
+      ⊎-elim
+      (λ (m : letter < 6). rw (← value-letter b (omega arith) (omega arith) (omega arith)) (omega arith))
+      (λ (m : 6 ≤ letter).
+      let n : 10 + d ≡ 16 = omega arith in
+      n ∙ ⊎-elim (λ (p : b < 48). value-below b p) (λ (p : 48 ≤ b). ⊎-elim (λ (q : b < 97). value-between b p (omega arith) q) (λ (q : 97 ≤ b). value-above b (omega arith)) (lt-or-le b 97)) (lt-or-le b 48))
+      (lt-or-le letter 6)
+
+pub ruleset value-laws = (value-low, value-high)
 
 module _ (n : ℕ) where
   pub digit-number : n % 16 < 10 → 48 + n % 16 ≡ hexDigit n
@@ -68,18 +85,14 @@ module _ (base i : ℕ) (s : List ℕ) where
   pub digits-rest : i < length s → allDigits base (drop i s) ≡ true → allDigits base (drop (i + 1) s) ≡ true
   digits-rest h a = and-right (ltb (hexValue (getD s i 0)) base) _ (sym (digits-first h) ∙ a)
 
--- one law for each place of a scan, whose answer is t
+-- one law for each place of a scan without an early answer, where good says whether the digits before index i are good
 
-module _ (base i : ℕ) (s : List ℕ) (t : Bool) (a : allDigits base (drop i s) ≡ t) where
-  pub scan-done : length s ≤ i → true ≡ t
+module _ (base i : ℕ) (s : List ℕ) (good t : Bool) (a : good && allDigits base (drop i s) ≡ t) where
+  pub scan-done : length s ≤ i → good ≡ t
   unfolding allDigits
-  scan-done h = rw (drop-of-length-le s h) at a
+  scan-done h = sym (and-true good) ∙ (rw (drop-of-length-le s h) at a)
 
-  module _ (d : ℕ) (e : d ≡ hexValue (getD s i 0)) (h : i < length s) where
-    pub scan-bad : base ≤ d → false ≡ t
-    scan-bad l = rw (digits-first base i s h, ← e, le-ltb d base l) at a
+  pub scan-next : (d : ℕ) → d ≡ hexValue (getD s i 0) → i < length s → (good && ltb d base) && allDigits base (drop (i + 1) s) ≡ t
+  scan-next d e h = rw (e, and-assoc good (ltb (hexValue (getD s i 0)) base) (allDigits base (drop (i + 1) s)), ← digits-first base i s h) a
 
-    pub scan-next : d < base → allDigits base (drop (i + 1) s) ≡ t
-    scan-next l = rw (digits-first base i s h, ← e, lt-ltb d base l) at a
-
-pub ruleset scan-laws = (scan-done, scan-bad, scan-next)
+pub ruleset scan-laws = (scan-done, scan-next)

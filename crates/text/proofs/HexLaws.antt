@@ -1,23 +1,25 @@
 -- Hexadecimal: one law for each place of the code.
-use Prim.Native.Nat.{ℕ, _+_, _*_, _/_, _%_, _^_, _≤_, _<_}
-use mathlib.Core.Path.{_≡_, refl, sym, _∙_}
+use Prim.Native.Nat.{ℕ, zero, suc, _+_, _-_, _*_, _/_, _%_, _^_, _≤_, _<_, min}
+use mathlib.Core.Path.{_≡_, refl, sym, _∙_, ap}
 use mathlib.Core.Bool.{Bool, true, false, _&&_, not, and-false}
 use mathlib.Core.List.{List, [], _∷_}
 use mathlib.Core.Option.{Option, some, none}
-use native.Mathlib.Nat.{lt-of-lt-of-le, mul-le-mul-right, pow-zero, pow-suc, pow-le-pow-right, mul-comm, mul-assoc, zero-lt-suc}
+use native.Mathlib.Nat.{sub-zero, lt-of-lt-of-le, mul-le-mul-right, pow-zero, pow-suc, pow-le-pow-right, mul-comm, mul-assoc, zero-lt-suc}
 use native.Mathlib.Numerals.{add-one}
 use native.Mathlib.Omega.{arith}
 use lib.Dec.{leb, ltb, eqb}
-use lib.ListN.{length, getD, drop, set, length-set, drop-of-length-le}
-use lib.Seq.{drop-cons}
+use lib.ListN.{length, getD, take, drop, set, length-set, length-take, drop-of-length-le}
+use lib.Seq.{drop-cons, take-all}
 use borrow.Author.Tests.{le-leb, lt-leb, ltb-true, eq-eqb, ne-eqb, not-true, not-false}
 use Rattle.text.specs.Digit.{hexValue, hexDigit, allDigits}
+use Rattle.bits.specs.Choice.{pick}
 use Rattle.bits.specs.Put.{put}
 use Rattle.text.specs.Laid.{laid}
 use Rattle.text.specs.Number.{valueFrom, value, empty, numberIn}
-use Rattle.text.specs.Hex.{hexNumber, pairs, bytesSpelled, spelledAnswer, spelledOver, hexText}
+use Rattle.text.specs.Hex.{hexNumber, pairs, bytesSpelled, spelledAnswer, spelledOver, frontAnswer, frontOver, hexText}
 use Rattle.text.specs.declared.number.Parsed.{Parsed}
 use Rattle.text.specs.declared.number.Parsed.the-variants.{Bad}
+use Rattle.text.specs.declared.hex.Spelled.{Spelled}
 use Rattle.text.specs.declared.hex.Spelled.the-variants.{Bytes, Bad as NoBytes}
 use Rattle.text.proofs.Order.{and-left, and-right}
 use Rattle.text.proofs.PutLaws.{put-first, put-done}
@@ -91,34 +93,45 @@ length-pairs [] = refl
 length-pairs (a ∷ []) = refl
 length-pairs (a ∷ b ∷ s) = omega (arith, length-pairs s)
 
--- the code has laid i bytes, and the digits from index 2 * i on are good
+-- the code has laid i bytes of n, and the digits from index 2 * i on are good; x and y are the next two letters
 
-module _ (n i a b : ℕ) (s out : List ℕ) (e : a ≡ hexValue (getD s (2 * i) 0)) (h : i < n) (l : length s ≡ 2 * n) (g : allDigits 16 (drop (2 * i) s) ≡ true) where
+module _ (n i x a : ℕ) (s : List ℕ) (p : x ≡ getD s (2 * i) 0) (e : a ≡ hexValue x) (h : i < n) (l : 2 * n ≤ length s) (g : allDigits 16 (drop (2 * i) s) ≡ true) where
+  high : a < 16
+  high = rw (e, p) (digit-small 16 (2 * i) s (omega arith) g)
+
   pub high-fits : a * 16 < 2 ^ 8
-  high-fits = omega (arith, digit-small 16 (2 * i) s (omega arith) g)
+  high-fits = omega (arith, high)
 
-  module _ (f : b ≡ hexValue (getD s (2 * i + 1) 0)) where
+  module _ (y b : ℕ) (q : y ≡ getD s (2 * i + 1) 0) (f : b ≡ hexValue y) where
     pub pair-fits : a * 16 + b < 2 ^ 8
-    pair-fits = omega (arith, digit-small 16 (2 * i) s (omega arith) g, digit-small 16 (2 * i + 1) s (omega arith) (digits-rest 16 (2 * i) s (omega arith) g))
+    pair-fits =
+        let k : b < 16 = rw (f, q) (digit-small 16 (2 * i + 1) s (omega arith) (digits-rest 16 (2 * i) s (omega arith) g)) in
+        omega (arith, high)
 
-    pub pair-next : (whole out₀ : List ℕ) → n ≤ length out₀ → length out ≡ length out₀ → put i (pairs (drop (2 * i) s)) out ≡ whole
-        → put (i + 1) (pairs (drop (2 * (i + 1)) s)) (set out i (a * 16 + b)) ≡ whole
+    pub pair-next : (whole out out₀ : List ℕ) → n ≤ length out₀ → length out ≡ length out₀ → put i (take (n - i) (pairs (drop (2 * i) s))) out ≡ whole
+        → put (i + 1) (take (n - (i + 1)) (pairs (drop (2 * (i + 1)) s))) (set out i (a * 16 + b)) ≡ whole
     unfolding pairs
-    pair-next whole out₀ m z q =
+    pair-next whole out out₀ m z w =
         let r : 2 * (i + 1) ≡ 2 * i + 1 + 1 = omega arith in
-        let k : pairs (drop (2 * i) s) ≡ (a * 16 + b) ∷ pairs (drop (2 * i + 1 + 1) s) = rw (drop-cons s (2 * i) 0 (omega arith), ← add-one (2 * i), drop-cons s (2 * i + 1) 0 (omega arith), ← add-one (2 * i + 1), e, f) in
-        rw (r, put-first i (a * 16 + b) (pairs (drop (2 * i + 1 + 1) s)) out (omega arith), ← k) q
+        let t : n - i ≡ suc (n - (i + 1)) = omega arith in
+        let rest : List ℕ = take (n - (i + 1)) (pairs (drop (2 * i + 1 + 1) s)) in
+        let k : take (n - i) (pairs (drop (2 * i) s)) ≡ (a * 16 + b) ∷ rest = rw (t, drop-cons s (2 * i) 0 (omega arith), ← add-one (2 * i), drop-cons s (2 * i + 1) 0 (omega arith), ← add-one (2 * i + 1), e, f, p, q) in
+        rw (r, put-first i (a * 16 + b) rest out (omega arith), ← k) w
 
-pub digits-next : (n i : ℕ) (s : List ℕ) → i < n → length s ≡ 2 * n → allDigits 16 (drop (2 * i) s) ≡ true → allDigits 16 (drop (2 * (i + 1)) s) ≡ true
+pub digits-next : (n i : ℕ) (s : List ℕ) → i < n → 2 * n ≤ length s → allDigits 16 (drop (2 * i) s) ≡ true → allDigits 16 (drop (2 * (i + 1)) s) ≡ true
 digits-next n i s h l g =
     let r : 2 * (i + 1) ≡ 2 * i + 1 + 1 = omega arith in
     rw r (digits-rest 16 (2 * i + 1) s (omega arith) (digits-rest 16 (2 * i) s (omega arith) g))
 
-pub pair-done : (n i : ℕ) (s out whole : List ℕ) → n ≤ i → length s ≡ 2 * n → put i (pairs (drop (2 * i) s)) out ≡ whole → out ≡ whole
-unfolding pairs
-pair-done n i s out whole h l q = sym (put-done i out) ∙ (rw (drop-of-length-le s {i = 2 * i} (omega arith)) at q)
+pub pair-done : (n i : ℕ) (s out whole : List ℕ) → n ≤ i → put i (take (n - i) (pairs (drop (2 * i) s))) out ≡ whole → out ≡ whole
+pair-done n i s out whole h q =
+    let z : n - i ≡ 0 = omega arith in
+    sym (put-done i out) ∙ (rw z at q)
 
-pub ruleset pair-laws = (high-fits, pair-fits, pair-next, digits-next, pair-done)
+pub pair-start : (n : ℕ) (s out : List ℕ) → put 0 (take (n - 0) s) out ≡ put 0 (take n s) out
+pair-start n s out = rw (sub-zero n)
+
+pub ruleset pair-laws = (pair-start, high-fits, pair-fits, pair-next, digits-next, pair-done)
 
 -- what is answered, and what out holds then
 
@@ -136,38 +149,75 @@ module _ (s : List ℕ) where
     unfolding bytesSpelled
     spells-good z h = rw (eq-eqb (length s % 2) 0 z, ← e, not-false r h)
 
-module _ (o : Option (List ℕ)) (out : List ℕ) where
-  pub answer-none : o ≡ none → NoBytes ≡ spelledAnswer o out
-  unfolding spelledAnswer
+-- how many bytes are laid, and that as many of them are those
+
+take-size : (n : ℕ) (s : List ℕ) → take (length (take n s)) s ≡ take n s
+take-size zero s = refl
+take-size (suc n) [] = refl
+take-size (suc n) (b ∷ s) = ap (λ (rest : List ℕ). b ∷ rest) (take-size n s)
+
+pub front-length : (most : ℕ) (s : List ℕ) → length (take most (pairs s)) ≡ min most (length s / 2)
+front-length most s = rw (length-pairs s) (length-take most (pairs s))
+
+module _ (most : ℕ) (o : Option (List ℕ)) (out : List ℕ) where
+  pub answer-none : o ≡ none → NoBytes ≡ frontAnswer most o out
+  unfolding frontAnswer
   answer-none h = rw h
 
-  pub over-none : o ≡ none → out ≡ spelledOver o out
-  unfolding spelledOver
+  pub over-none : o ≡ none → out ≡ frontOver most o out
+  unfolding frontOver
   over-none h = rw h
 
-  module _ (s : List ℕ) (e : o ≡ some (pairs s)) where
-    pub answer-short : length out < length s / 2 → NoBytes ≡ spelledAnswer o out
-    unfolding spelledAnswer
-    answer-short h = rw (e, lt-leb (0 + length (pairs s)) (length out) (omega (arith, length-pairs s)))
+  module _ (s : List ℕ) (n : ℕ) (e : o ≡ some (pairs s)) (f : n ≡ min most (length s / 2)) where
+    size : length (take most (pairs s)) ≡ n
+    size = front-length most s ∙ sym f
 
-    pub over-short : length out < length s / 2 → out ≡ spelledOver o out
-    unfolding spelledOver laid
-    over-short h = rw (e, lt-leb (0 + length (pairs s)) (length out) (omega (arith, length-pairs s)))
+    pub answer-short : length out < n → NoBytes ≡ frontAnswer most o out
+    unfolding frontAnswer
+    answer-short h = rw (e, lt-leb (0 + length (take most (pairs s))) (length out) (omega (arith, size)))
 
-    module _ (h : length s / 2 ≤ length out) where
-      pub answer-whole : Bytes (length s / 2) ≡ spelledAnswer o out
-      unfolding spelledAnswer
-      answer-whole = rw (e, le-leb (0 + length (pairs s)) (length out) (omega (arith, length-pairs s)), length-pairs s)
+    pub over-short : length out < n → out ≡ frontOver most o out
+    unfolding frontOver laid
+    over-short h = rw (e, lt-leb (0 + length (take most (pairs s))) (length out) (omega (arith, size)))
 
-      pub over-whole : (last : List ℕ) → last ≡ put 0 (pairs s) out → last ≡ spelledOver o out
-      unfolding spelledOver laid
-      over-whole last q = rw (e, le-leb (0 + length (pairs s)) (length out) (omega (arith, length-pairs s))) q
+    module _ (h : n ≤ length out) where
+      pub answer-whole : Bytes (length s / 2) ≡ frontAnswer most o out
+      unfolding frontAnswer
+      answer-whole = rw (e, le-leb (0 + length (take most (pairs s))) (length out) (omega (arith, size)), length-pairs s)
 
-pub ruleset spelled-laws = (spells-odd, spells-bad, spells-good, answer-none, over-none, answer-short, over-short, answer-whole, over-whole)
+      pub over-whole : (last : List ℕ) → last ≡ put 0 (take n (pairs s)) out → last ≡ frontOver most o out
+      unfolding frontOver laid
+      over-whole last q = rw (e, le-leb (0 + length (take most (pairs s))) (length out) (omega (arith, size)), ← take-size most (pairs s), size) q
+
+pub ruleset front-laws = (spells-odd, spells-bad, spells-good, answer-none, over-none, answer-short, over-short, answer-whole, over-whole)
 
 -- what the loop asks of s
-pub even-half : (s : List ℕ) → length s % 2 ≡ 0 → length s ≡ 2 * (length s / 2)
-even-half s h = omega arith
+pub front-half : (most n : ℕ) (s : List ℕ) → n ≡ min most (length s / 2) → 2 * n ≤ length s
+front-half most n s f = omega arith
 
 pub all-good : (r : Bool) (s : List ℕ) → r ≡ allDigits 16 s → not r ≡ false → allDigits 16 s ≡ true
 all-good r s e h = sym e ∙ not-false r h
+
+-- s has more digits than it spells bytes
+
+module _ (s out : List ℕ) where
+  all-front : take (length s) (pairs s) ≡ pairs s
+  all-front = take-all (length s) (pairs s) (omega (arith, length-pairs s))
+
+  pub answer-all : (r : Spelled) → r ≡ frontAnswer (length s) (bytesSpelled s) out → r ≡ spelledAnswer (bytesSpelled s) out
+  unfolding bytesSpelled frontAnswer spelledAnswer
+  answer-all r q = q ∙ by (eqb (length s % 2) 0 && allDigits 16 s)
+    where
+      by : (t : Bool) → frontAnswer (length s) (pick t (some (pairs s)) none) out ≡ spelledAnswer (pick t (some (pairs s)) none) out
+      by true = rw all-front
+      by false = refl
+
+  pub over-all : (last : List ℕ) → last ≡ frontOver (length s) (bytesSpelled s) out → last ≡ spelledOver (bytesSpelled s) out
+  unfolding bytesSpelled frontOver spelledOver
+  over-all last q = q ∙ by (eqb (length s % 2) 0 && allDigits 16 s)
+    where
+      by : (t : Bool) → frontOver (length s) (pick t (some (pairs s)) none) out ≡ spelledOver (pick t (some (pairs s)) none) out
+      by true = rw all-front
+      by false = refl
+
+pub ruleset spelled-laws = (answer-all, over-all)

@@ -4,5 +4,8 @@ pub mod DigitLaws
 pub mod NumberLaws
 pub mod HexLaws
 pub mod WordLaws
+pub mod FieldLaws
 pub mod RoundTrips
 pub mod Bounds
+pub mod LaidLaws
+pub mod FieldPlaces

@@ -57,7 +57,7 @@ module _ (base : ℕ) (p : 1 < base) where
       (lt-or-le n base)
 
   -- and not more than it needs
-  count-le : (k j n : ℕ) → n < base ^ suc j → countTo base k n ≤ suc j
+  pub count-le : (k j n : ℕ) → n < base ^ suc j → countTo base k n ≤ suc j
   unfolding countTo
   count-le zero j n h = omega arith
   count-le (suc k) zero n h = rw (lt-ltb n base (rw (one-power base p) at h)) (omega arith)

@@ -7,7 +7,7 @@ use Rattle.bits.specs.Put.{put}
 use Rattle.text.specs.Laid.{laid, after}
 use Rattle.text.specs.Digit.{hexValue, hexDigit, allDigits}
 use Rattle.text.specs.Number.{valueFrom, plain, plainly, empty, numberIn, digits, countTo}
-use Rattle.text.specs.Hex.{hexNumber, hexPlain, hexPlainText, pairs, bytesSpelled, spelledAnswer, spelledOver, hexText}
+use Rattle.text.specs.Hex.{hexNumber, hexPlain, hexPlainText, pairs, bytesSpelled, spelledAnswer, spelledOver, frontAnswer, frontOver, hexText}
 use Rattle.text.specs.Decimal.{decimalNumber, decimalText}
 use Rattle.text.specs.Words.{wordLength, wordEnd, beginsWith, startsWith, valueAt}
 use Rattle.text.specs.declared.number.Parsed.the-variants.{Number, Bad}
@@ -135,6 +135,15 @@ bytes-answered = refl
 pub bytes-refused : spelledOver (some (74 ∷ 0 ∷ [])) (1 ∷ []) ≡ 1 ∷ []
 unfolding spelledOver laid
 bytes-refused = refl
+
+-- the first byte of two, none and all of them, over one
+pub front-over : map (λ (most : ℕ). frontOver most (some (74 ∷ 0 ∷ [])) (1 ∷ [])) (1 ∷ 0 ∷ 2 ∷ []) ≡ (74 ∷ []) ∷ (1 ∷ []) ∷ (1 ∷ []) ∷ []
+unfolding frontOver laid put
+front-over = refl
+
+pub front-answered : map (λ (most : ℕ). frontAnswer most (some (74 ∷ 0 ∷ [])) (1 ∷ [])) (1 ∷ 0 ∷ 2 ∷ []) ≡ Bytes 2 ∷ Bytes 2 ∷ NoBytes ∷ []
+unfolding frontAnswer
+front-answered = refl
 
 -- one byte at the indices 2 and 3 of three bytes
 pub text-laid : map (λ (at : ℕ). laid at (7 ∷ []) (1 ∷ 2 ∷ 3 ∷ [])) (2 ∷ 3 ∷ []) ≡ (1 ∷ 2 ∷ 7 ∷ []) ∷ (1 ∷ 2 ∷ 3 ∷ []) ∷ []

@@ -4,7 +4,7 @@ use mathlib.Core.Bool.{_&&_, not}
 use mathlib.Core.List.{List, [], _∷_}
 use mathlib.Core.Option.{Option, some, none}
 use lib.Dec.{leb, eqb}
-use lib.ListN.{length}
+use lib.ListN.{length, take}
 use Rattle.bits.specs.Choice.{pick}
 use Rattle.text.specs.Laid.{fits, laid}
 use Rattle.text.specs.Digit.{hexValue, hexDigit, allDigits}
@@ -44,6 +44,15 @@ spelledAnswer (some bytes) out = pick (fits 0 bytes out) (Bytes (length bytes)) 
 unfoldable pub spelledOver : Option (List ℕ) → List ℕ → List ℕ
 spelledOver none out = out
 spelledOver (some bytes) out = laid 0 bytes out
+
+-- the same where only the first most bytes go over the front of out; the answer counts all of them
+unfoldable pub frontAnswer : ℕ → Option (List ℕ) → List ℕ → Spelled
+frontAnswer most none out = NoBytes
+frontAnswer most (some bytes) out = pick (fits 0 (take most bytes) out) (Bytes (length bytes)) NoBytes
+
+unfoldable pub frontOver : ℕ → Option (List ℕ) → List ℕ → List ℕ
+frontOver most none out = out
+frontOver most (some bytes) out = laid 0 (take most bytes) out
 
 -- two digits for every byte
 unfoldable pub hexText : List ℕ → List ℕ

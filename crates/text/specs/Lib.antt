@@ -4,4 +4,6 @@ pub mod Number
 pub mod Hex
 pub mod Decimal
 pub mod Words
+pub mod Fields
 pub mod Cases
+pub mod Letters

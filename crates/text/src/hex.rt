@@ -5,33 +5,38 @@ use crate::number::is_plain;
 use crate::number::number_in;
 use crate::number::put_digits;
 use crate::output::room;
+use bits::choice::lesser;
+use std::num::wrapping_sub_u8;
 ghost use mathlib.Core.Path.{_≡_};
 ghost use mathlib.Core.Bool.{true};
-ghost use Prim.Native.Nat.{_+_, _*_, _≤_};
-ghost use lib.ListN.{length};
+ghost use Prim.Native.Nat.{_+_, _*_, _/_, _%_, _≤_, _<_, min};
+ghost use lib.ListN.{length, getD, take};
 ghost use Rattle.text.specs.Digit.{hexValue, hexDigit, allDigits};
 ghost use Rattle.bits.specs.Put.{put};
 ghost use Rattle.text.specs.Laid.{laid, after};
 ghost use Rattle.text.specs.Number.{digits};
-ghost use Rattle.text.specs.Hex.{hexNumber, hexPlain, hexPlainText, pairs, bytesSpelled, spelledAnswer, spelledOver, hexText};
+ghost use Rattle.text.specs.Hex.{hexNumber, hexPlain, hexPlainText, pairs, bytesSpelled, spelledAnswer, spelledOver, frontAnswer, frontOver, hexText};
+
+fn least(a: u8, b: u8) -> u8
+    ensures { λ r. ⌜ r ≡ min a b ⌝ }
+{
+    if a < b {
+        return a;
+    }
+    b
+}
 
 // The value of a digit, 16 for a byte that is none. No other function looks at letters.
+// What stands below the first letter wraps around to above the last: with so few tests a loop looks at many bytes at once.
 pub fn hex_value(b: u8) -> u8
     ensures { λ r. ⌜ r ≡ hexValue b ⌝ }
 {
-    if b < b'0' {
-        return 16;
+    let letter = 10 + least(wrapping_sub_u8(b, b'a'), 6);
+    let number = wrapping_sub_u8(b, b'0');
+    if number < 10 {
+        return number;
     }
-    if b <= b'9' {
-        return b - b'0';
-    }
-    if b < b'a' {
-        return 16;
-    }
-    if b <= b'f' {
-        return b - b'a' + 10;
-    }
-    16
+    letter
 }
 
 // The letter of n % 16.
@@ -65,18 +70,17 @@ pub fn hex_plain(s: &[u8]) -> Parsed
     hex_number(s)
 }
 
-// Whether every byte is a digit.
+// Whether every byte is a digit. It looks at all of them, with no early answer, so that it looks at many at once.
 pub fn hex_only(s: &[u8]) -> bool
     ensures { λ r. ⌜ r ≡ allDigits 16 (now (s .entry)) ⌝ }
 {
+    let mut good = true;
     let mut i: usize = 0;
     while i < s.len() {
-        if 16 <= hex_value(s[i]) {
-            return false;
-        }
+        good = good & (hex_value(s[i]) < 16);
         i += 1;
     }
-    true
+    good
 }
 
 // How many bytes were spelled.
@@ -85,20 +89,36 @@ pub enum Spelled {
     Bad,
 }
 
+fn join(a: u8, b: u8) -> u16
+    ensures { λ r. ⌜ (r % 256 ≡ a) × (r / 256 ≡ b) ⌝ }
+{
+    a as u16 + b as u16 * 256
+}
+
+// Two letters in one number, the first of them lowest, so that one load reads both.
+fn pair_at(s: &[u8], at: usize) -> u16
+    requires { ⌜ at + 1 < length (now s) ⌝ }
+    ensures { λ r. ⌜ (r % 256 ≡ getD (now (s .entry)) at 0) × (r / 256 ≡ getD (now (s .entry)) (at + 1) 0) ⌝ }
+{
+    join(s[at], s[at + 1])
+}
+
+// The first n bytes.
 fn lay_bytes(s: &[u8], n: usize, out: &mut [u8])
-    requires { ⌜ (length (now s) ≡ 2 * n) × ((n ≤ length (now out)) × (allDigits 16 (now s) ≡ true)) ⌝ }
-    ensures { λ _. ⌜ now (out .exit) ≡ put 0 (pairs (now (s .entry))) (now (out .entry)) ⌝ }
+    requires { ⌜ (2 * n ≤ length (now s)) × ((n ≤ length (now out)) × (allDigits 16 (now s) ≡ true)) ⌝ }
+    ensures { λ _. ⌜ now (out .exit) ≡ put 0 (take n (pairs (now (s .entry)))) (now (out .entry)) ⌝ }
 {
     let mut i: usize = 0;
     while i < n {
-        out[i] = hex_value(s[2 * i]) * 16 + hex_value(s[2 * i + 1]);
+        let pair = pair_at(s, 2 * i);
+        out[i] = hex_value((pair % 256) as u8) * 16 + hex_value((pair / 256) as u8);
         i += 1;
     }
 }
 
-// The bytes that s spells, over the front of out; where it spells none, or they do not fit, out stays as it was.
-pub fn hex_bytes(s: &[u8], out: &mut [u8]) -> Spelled
-    ensures { λ r. ⌜ (r ≡ spelledAnswer (bytesSpelled (now (s .entry))) (now (out .entry))) × (now (out .exit) ≡ spelledOver (bytesSpelled (now (s .entry))) (now (out .entry))) ⌝ }
+// How many bytes s spells, and the first most of them over the front of out; where it spells none, or those do not fit, out stays as it was.
+pub fn hex_front(s: &[u8], most: usize, out: &mut [u8]) -> Spelled
+    ensures { λ r. ⌜ (r ≡ frontAnswer most (bytesSpelled (now (s .entry))) (now (out .entry))) × (now (out .exit) ≡ frontOver most (bytesSpelled (now (s .entry))) (now (out .entry))) ⌝ }
 {
     if s.len() % 2 != 0 {
         return Spelled::Bad;
@@ -106,12 +126,19 @@ pub fn hex_bytes(s: &[u8], out: &mut [u8]) -> Spelled
     if !hex_only(s) {
         return Spelled::Bad;
     }
-    let n = s.len() / 2;
+    let n = lesser(most, s.len() / 2);
     if out.len() < n {
         return Spelled::Bad;
     }
     lay_bytes(s, n, out);
-    Spelled::Bytes(n)
+    Spelled::Bytes(s.len() / 2)
+}
+
+// The bytes that s spells, over the front of out; where it spells none, or they do not fit, out stays as it was.
+pub fn hex_bytes(s: &[u8], out: &mut [u8]) -> Spelled
+    ensures { λ r. ⌜ (r ≡ spelledAnswer (bytesSpelled (now (s .entry))) (now (out .entry))) × (now (out .exit) ≡ spelledOver (bytesSpelled (now (s .entry))) (now (out .entry))) ⌝ }
+{
+    hex_front(s, s.len(), out)
 }
 
 fn lay_hex(s: &[u8], at: usize, out: &mut [u8]) -> usize

@@ -1,5 +1,6 @@
 // Numbers and words in lines of text, parsed and printed, for any input.
 pub mod decimal;
+pub mod fields;
 pub mod hex;
 pub mod number;
 pub mod output;

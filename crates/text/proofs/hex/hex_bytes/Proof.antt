@@ -1,37 +1,16 @@
-use Rattle.text.proofs.HexLaws.{spelled-laws, even-half, all-good}
+use Rattle.text.proofs.HexLaws.{spelled-laws}
 use borrow.Author.Needs.{needs}
 use Rattle.text.proofs.hex.hex_bytes.Statement.{statement}
 use Rattle.text.proofs.hex.hex_bytes.Tie as tie
 
-returns : tie.Need-returns
-returns c = (search spelled-laws, search spelled-laws)
-
-hex-only-requires : tie.Need-hex-only-requires
-hex-only-requires c κs = search needs
-
-returns-2 : tie.Need-returns-2
-returns-2 c = (search spelled-laws, search spelled-laws)
-
-returns-3 : tie.Need-returns-3
-returns-3 c = (search spelled-laws, search spelled-laws)
-
-lay-bytes-requires : tie.Need-lay-bytes-requires
-lay-bytes-requires c κs = (search even-half, (search needs, search all-good))
+hex-front-requires : tie.Need-hex-front-requires
+hex-front-requires c κs = search needs
 
 same-length : tie.Need-same-length
 same-length c = search needs
 
-returns-4 : tie.Need-returns-4
-returns-4 c = (search spelled-laws, search spelled-laws)
+returns : tie.Need-returns
+returns c = (search spelled-laws, search spelled-laws)
 
 pub hex-bytes-spec : {M : Type 1} → statement M
-hex-bytes-spec =
-    tie.close
-    (tie.spec
-    returns
-    hex-only-requires
-    returns-2
-    returns-3
-    lay-bytes-requires
-    same-length
-    returns-4)
+hex-bytes-spec = tie.close (tie.spec hex-front-requires same-length returns)

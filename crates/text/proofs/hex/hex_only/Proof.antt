@@ -1,5 +1,6 @@
 use Rattle.text.proofs.DigitLaws.{scan-laws}
 use mathlib.Core.Path.{_≡_}
+use mathlib.Core.Bool.{_&&_}
 use Prim.Native.Nat.{_-_, _≤_}
 use lib.ListN.{length, drop}
 use Rattle.text.specs.Digit.{allDigits}
@@ -8,10 +9,10 @@ use Rattle.text.proofs.hex.hex_only.Statement.{statement}
 use Rattle.text.proofs.hex.hex_only.Tie as tie
 
 abbrev Inv-loop : tie.InvT-loop
-Inv-loop s i₀ i = (i ≤ length s) × (allDigits 16 (drop i s) ≡ allDigits 16 s)
+Inv-loop s good₀ i₀ good i = (i ≤ length s) × (good && allDigits 16 (drop i s) ≡ allDigits 16 s)
 
 abbrev μ-loop : tie.MeasureT-loop
-μ-loop s i₀ i = length s - i
+μ-loop s good₀ i₀ good i = length s - i
 
 loop-holds : tie.Need-loop-holds Inv-loop μ-loop
 loop-holds c = search needs
@@ -22,9 +23,6 @@ shared-slice-read-hex-value c = search needs
 hex-value-requires : tie.Need-hex-value-requires Inv-loop μ-loop
 hex-value-requires c κs = search needs
 
-returns : tie.Need-returns Inv-loop μ-loop
-returns c = search scan-laws
-
 add-i : tie.Need-add-i Inv-loop μ-loop
 add-i c = search needs
 
@@ -34,8 +32,8 @@ loop-less c = search needs
 loop-again : tie.Need-loop-again Inv-loop μ-loop
 loop-again c = (search needs, search scan-laws)
 
-returns-2 : tie.Need-returns-2 Inv-loop μ-loop
-returns-2 c = search scan-laws
+returns : tie.Need-returns Inv-loop μ-loop
+returns c = search scan-laws
 
 pub hex-only-spec : {M : Type 1} → statement M
 hex-only-spec =
@@ -46,8 +44,7 @@ hex-only-spec =
     loop-holds
     shared-slice-read-hex-value
     hex-value-requires
-    returns
     add-i
     loop-less
     loop-again
-    returns-2)
+    returns)

@@ -3,7 +3,7 @@ use mathlib.Core.Path.{_≡_}
 use mathlib.Core.Bool.{true}
 use Prim.Native.Nat.{_-_, _*_, _≤_}
 use native.Mathlib.Omega.{arith}
-use lib.ListN.{length, drop, length-set}
+use lib.ListN.{length, take, drop, length-set}
 use Rattle.text.specs.Digit.{allDigits}
 use Rattle.text.specs.Hex.{pairs}
 use Rattle.bits.specs.Put.{put}
@@ -12,19 +12,22 @@ use Rattle.text.proofs.hex.lay_bytes.Statement.{statement}
 use Rattle.text.proofs.hex.lay_bytes.Tie as tie
 
 abbrev Inv-loop : tie.InvT-loop
-Inv-loop s n out₀ i₀ out i = (i ≤ n) × ((length out ≡ length out₀) × ((allDigits 16 (drop (2 * i) s) ≡ true) × (put i (pairs (drop (2 * i) s)) out ≡ put 0 (pairs s) out₀)))
+Inv-loop s n out₀ i₀ out i = (i ≤ n) × ((length out ≡ length out₀) × ((allDigits 16 (drop (2 * i) s) ≡ true) × (put i (take (n - i) (pairs (drop (2 * i) s))) out ≡ put 0 (take n (pairs s)) out₀)))
 
 abbrev μ-loop : tie.MeasureT-loop
 μ-loop s n out₀ i₀ out i = n - i
 
 loop-holds : tie.Need-loop-holds Inv-loop μ-loop
-loop-holds c = search needs
+loop-holds c = (search needs, (search needs, (search needs, search pair-laws)))
 
-mul-hex-value : tie.Need-mul-hex-value Inv-loop μ-loop
-mul-hex-value c = search needs
+mul-pair-at : tie.Need-mul-pair-at Inv-loop μ-loop
+mul-pair-at c = search needs
 
-shared-slice-read-hex-value : tie.Need-shared-slice-read-hex-value Inv-loop μ-loop
-shared-slice-read-hex-value c = search needs
+pair-at-requires : tie.Need-pair-at-requires Inv-loop μ-loop
+pair-at-requires c κs = search needs
+
+cast-hex-value : tie.Need-cast-hex-value Inv-loop μ-loop
+cast-hex-value c = search needs
 
 hex-value-requires : tie.Need-hex-value-requires Inv-loop μ-loop
 hex-value-requires c κs = search needs
@@ -32,14 +35,8 @@ hex-value-requires c κs = search needs
 mul-out : tie.Need-mul-out Inv-loop μ-loop
 mul-out c = record { fits = search pair-laws }
 
-mul-hex-value-2 : tie.Need-mul-hex-value-2 Inv-loop μ-loop
-mul-hex-value-2 c = search needs
-
-add-hex-value : tie.Need-add-hex-value Inv-loop μ-loop
-add-hex-value c = search needs
-
-shared-slice-read-hex-value-2 : tie.Need-shared-slice-read-hex-value-2 Inv-loop μ-loop
-shared-slice-read-hex-value-2 c = search needs
+cast-hex-value-2 : tie.Need-cast-hex-value-2 Inv-loop μ-loop
+cast-hex-value-2 c = search needs
 
 hex-value-requires-2 : tie.Need-hex-value-requires-2 Inv-loop μ-loop
 hex-value-requires-2 c κs = search needs
@@ -72,13 +69,12 @@ lay-bytes-spec =
     Inv-loop
     μ-loop
     loop-holds
-    mul-hex-value
-    shared-slice-read-hex-value
+    mul-pair-at
+    pair-at-requires
+    cast-hex-value
     hex-value-requires
     mul-out
-    mul-hex-value-2
-    add-hex-value
-    shared-slice-read-hex-value-2
+    cast-hex-value-2
     hex-value-requires-2
     add-out
     slice-write-out

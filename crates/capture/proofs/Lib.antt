@@ -1,0 +1,5 @@
+pub mod HeaderLaws
+pub mod PacketLineLaws
+pub mod PacketBytes
+pub mod RoomLaws
+pub mod FrontLaws

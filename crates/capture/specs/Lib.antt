@@ -1,0 +1,5 @@
+pub mod Keys
+pub mod Headers
+pub mod PacketLines
+pub mod Decode
+pub mod Cases

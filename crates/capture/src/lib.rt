@@ -1,0 +1,3 @@
+// The capture format: line one, and packet lines.
+pub mod header;
+pub mod packet_line;

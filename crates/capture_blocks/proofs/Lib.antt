@@ -1,0 +1,7 @@
+pub mod DecodingLaws
+pub mod StepLaws
+pub mod EveryCutting
+pub mod LinesLaws
+pub mod LineAtLaws
+pub mod StepReturns
+pub mod CallReturns

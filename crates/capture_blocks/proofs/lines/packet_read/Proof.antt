@@ -1,0 +1,45 @@
+use Rattle.capture_blocks.proofs.LineAtLaws.{packet-laws}
+use borrow.Author.Needs.{needs}
+use Rattle.capture_blocks.proofs.lines.packet_read.Statement.{statement}
+use Rattle.capture_blocks.proofs.lines.packet_read.Tie as tie
+
+packet-line-requires : tie.Need-packet-line-requires
+packet-line-requires c κs = search needs
+
+enum-known-line : tie.Need-enum-known-line
+enum-known-line c = search needs
+
+enum-known-line-2 : tie.Need-enum-known-line-2
+enum-known-line-2 c = search needs
+
+part-requires : tie.Need-part-requires
+part-requires c κs = search needs
+
+read-requires : tie.Need-read-requires
+read-requires c κs = search needs
+
+same-length : tie.Need-same-length
+same-length c = search needs
+
+returns : tie.Need-returns
+returns c = (search packet-laws depth 12 fits 4000, (search packet-laws depth 12 fits 4000, search packet-laws depth 12 fits 4000))
+
+same-length-2 : tie.Need-same-length-2
+same-length-2 c = search needs
+
+returns-2 : tie.Need-returns-2
+returns-2 c = (search packet-laws depth 12 fits 4000, (search packet-laws depth 12 fits 4000, search packet-laws depth 12 fits 4000))
+
+pub packet-read-spec : {M : Type 1} → statement M
+packet-read-spec =
+    tie.close
+    (tie.spec
+    packet-line-requires
+    enum-known-line
+    enum-known-line-2
+    part-requires
+    read-requires
+    same-length
+    returns
+    same-length-2
+    returns-2)

@@ -1,0 +1,10 @@
+-- However an input is cut into blocks, their outputs joined are the decoding of the whole.
+use Prim.Native.Nat.{ℕ}
+use mathlib.Core.Path.{_≡_}
+use mathlib.Core.List.{List}
+use Rattle.capture.specs.Decode.{decodeText}
+use Rattle.capture_blocks.specs.Blocks.{runBlocks, joined}
+
+-- the theorem
+abbrev pub EveryCutting : Type 0
+EveryCutting = (blocks : List (List ℕ)) → runBlocks blocks ≡ decodeText (joined blocks)

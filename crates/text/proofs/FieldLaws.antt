@@ -1,0 +1,79 @@
+-- What fields after one another come to, return by return.
+use Prim.Native.Nat.{ℕ, _+_, _-_, _≤_}
+use mathlib.Core.Path.{_≡_, refl, sym, _∙_}
+use mathlib.Core.Bool.{Bool, true, false, not}
+use mathlib.Core.List.{List}
+use lib.Dec.{eqb}
+use lib.ListN.{length, take, drop}
+use borrow.Author.Tests.{eq-eqb, ne-eqb, not-true, not-false}
+use Rattle.bits.specs.Choice.{pick}
+use Rattle.text.specs.Decimal.{decimalNumber}
+use Rattle.text.specs.Hex.{hexNumber}
+use Rattle.text.specs.Words.{startsWith, valueAt}
+use Rattle.text.specs.Fields.{badField, parsedField, between, decimalAfter, hexAfter, keyAfter}
+use Rattle.text.specs.declared.number.Parsed.{Parsed}
+use Rattle.text.specs.declared.number.Parsed.the-variants.{Number, Bad}
+use Rattle.text.specs.declared.words.Value.{Value}
+use Rattle.text.specs.declared.words.Value.the-variants.{Found, Missing}
+use Rattle.text.specs.declared.fields.Field.{Field}
+
+pub parsed-number : (p : Parsed) (n next : ℕ) → p ≡ Number n → record { good = true; value = n; next = next } ≡ parsedField p next
+parsed-number p n next e = rw e
+
+pub parsed-bad : (p : Parsed) (next : ℕ) (r : Field) → p ≡ Bad → r ≡ badField → r ≡ parsedField p next
+parsed-bad p next r e f = rw e f
+
+pub ruleset parsed-laws = (parsed-number, parsed-bad)
+
+module _ (s key : List ℕ) (before : Field) (r : Field) where
+  module _ (most : ℕ) where
+    pub decimal-bad : not (before .good) ≡ true → r ≡ badField → r ≡ decimalAfter s before key most
+    unfolding decimalAfter
+    decimal-bad h e = rw (not-true (before .good) h) e
+
+    module _ (v : Value) (e : v ≡ valueAt s (before .next) key) (g : not (before .good) ≡ false) where
+      pub decimal-missing : v ≡ Missing → r ≡ badField → r ≡ decimalAfter s before key most
+      unfolding decimalAfter
+      decimal-missing m f = rw (not-false (before .good) g, ← e, m) f
+
+      pub decimal-found : (from to : ℕ) (digits : List ℕ) (p : Parsed) → v ≡ Found from to → digits ≡ take (to - from) (drop from s) → p ≡ decimalNumber most digits → r ≡ parsedField p to → r ≡ decimalAfter s before key most
+      unfolding decimalAfter
+      decimal-found from to digits p m d q f = rw (not-false (before .good) g, ← e, m, ← d, ← q) f
+
+  module _ (width : ℕ) where
+    pub hex-bad : not (before .good) ≡ true → r ≡ badField → r ≡ hexAfter s before key width
+    unfolding hexAfter
+    hex-bad h e = rw (not-true (before .good) h) e
+
+    module _ (v : Value) (e : v ≡ valueAt s (before .next) key) (g : not (before .good) ≡ false) where
+      pub hex-missing : v ≡ Missing → r ≡ badField → r ≡ hexAfter s before key width
+      unfolding hexAfter
+      hex-missing m f = rw (not-false (before .good) g, ← e, m) f
+
+      module _ (from to : ℕ) (digits : List ℕ) (m : v ≡ Found from to) (d : digits ≡ take (to - from) (drop from s)) where
+        pub hex-wide : (length digits ≡ width → ⊥) → r ≡ badField → r ≡ hexAfter s before key width
+        unfolding hexAfter
+        hex-wide h f = rw (not-false (before .good) g, ← e, m, ← d, ne-eqb (length digits) width h) f
+
+        pub hex-found : (p : Parsed) → length digits ≡ width → p ≡ hexNumber digits → r ≡ parsedField p to → r ≡ hexAfter s before key width
+        unfolding hexAfter
+        hex-found p h q f = rw (not-false (before .good) g, ← e, m, ← d, eq-eqb (length digits) width h, ← q) f
+
+  pub key-bad : not (before .good) ≡ true → r ≡ badField → r ≡ keyAfter s before key
+  unfolding keyAfter
+  key-bad h e = rw (not-true (before .good) h) e
+
+  module _ (b : Bool) (e : b ≡ startsWith s (before .next) key) (g : not (before .good) ≡ false) where
+    pub key-missing : not b ≡ true → r ≡ badField → r ≡ keyAfter s before key
+    unfolding keyAfter
+    key-missing h f = rw (not-false (before .good) g, ← e, not-true b h) f
+
+pub key-found : (s key : List ℕ) (before : Field) (b : Bool) → b ≡ startsWith s (before .next) key → not (before .good) ≡ false → not b ≡ false → record { good = true; value = 0; next = before .next + length key } ≡ keyAfter s before key
+unfolding keyAfter
+key-found s key before b e g h = rw (not-false (before .good) g, ← e, not-false b h)
+
+pub ruleset decimal-field-laws = (decimal-bad, decimal-missing, decimal-found)
+
+pub ruleset hex-field-laws = (hex-bad, hex-missing, hex-wide, hex-found)
+
+pub ruleset key-laws = (key-bad, key-missing, key-found)
