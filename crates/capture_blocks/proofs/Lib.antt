@@ -5,3 +5,4 @@ pub mod LinesLaws
 pub mod LineAtLaws
 pub mod StepReturns
 pub mod CallReturns
+pub mod StepBounds

@@ -1,5 +1,5 @@
 -- Lines of an input that is joined from two parts: what the first part leaves unended is read again with the second.
-use Prim.Native.Nat.{ℕ, suc, _-_, _≤_}
+use Prim.Native.Nat.{ℕ, suc, _+_, _-_, _≤_}
 use mathlib.Core.Path.{_≡_, refl, _∙_, subst}
 use mathlib.Core.Bool.{Bool, true, false}
 use mathlib.Core.List.{List, [], _∷_, _++_}
@@ -83,6 +83,17 @@ unended-le (b ∷ s) =
       | ends h ↦ rw h (omega (arith, unended-le s))
       | unfinished h e ↦ rw (h, e) (omega arith)
       | within h text texts e ↦ rw (h, e) (omega (arith, unended-le s))
+    ]
+
+-- each complete line has its newline
+pub complete-le : (x : List ℕ) → length (completeLines x) + length (unended x) ≤ length x
+unfolding completeLines unended lineWith tailWith
+complete-le [] = omega arith
+complete-le (b ∷ s) =
+    elim (place b s) [
+      | ends h ↦ rw h (omega (arith, complete-le s))
+      | unfinished h e ↦ rw (h, e) (omega arith)
+      | within h text texts e ↦ rw (h, e) (omega (arith, rw e at (complete-le s)))
     ]
 
 -- it stands at the end

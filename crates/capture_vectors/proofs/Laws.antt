@@ -1,0 +1,40 @@
+-- The sums over the steps of a capture of at most 70,000 bytes.
+use Prim.Native.Nat.{ℕ, _+_, _-_, _^_, _≤_, _<_}
+use mathlib.Core.Path.{_≡_}
+use mathlib.Core.List.{List}
+use native.Mathlib.Omega.{arith}
+use lib.ListN.{length, take, drop, length-take, length-drop}
+use Rattle.capture_blocks.specs.Answers.{stepAnswer, endAnswer}
+use Rattle.capture_blocks.specs.declared.Progress.{Progress}
+use Rattle.capture_blocks.specs.declared.Step.{Step}
+use Rattle.capture_blocks.specs.declared.BlockAnswer.{BlockAnswer}
+use Rattle.capture_blocks.specs.declared.BlockAnswer.the-variants.{Stepped}
+use Rattle.capture_blocks.proofs.StepBounds.{block-used, block-within, block-refused, end-lines, end-refused}
+
+-- ---- a step
+
+pub step-room : (p : Progress) (bytes out : List ℕ) (r : BlockAnswer) → r ≡ stepAnswer p bytes out → (s : Step) → r ≡ Stepped s
+    → (used : ℕ) → used + length bytes ≤ 70000 → used + s .used ≤ 70000
+step-room p bytes out r d s u used h = omega (arith, h, block-used p bytes out r d s u)
+
+pub step-used : (used sum : ℕ) (s : Step) → sum ≡ used + s .used → (r : BlockAnswer) → r ≡ Stepped s → (p : Progress) (bytes out : List ℕ) → r ≡ stepAnswer p bytes out
+    → sum ≤ used + length bytes
+step-used used sum s e r u p bytes out d = omega (arith, e, block-used p bytes out r d s u)
+
+pub ruleset step-laws = (step-room, step-used, block-within, block-refused)
+
+-- ---- the end
+
+module _ (p : Progress) (rest out : List ℕ) (r : BlockAnswer) (d : r ≡ endAnswer p rest out) (s : Step) (u : r ≡ Stepped s) (n : ℕ) (h : n ≤ 70000) where
+  pub last-lines : n + s .lines < 2 ^ 64
+  last-lines = omega (arith, h, end-lines p rest out r d s u)
+
+  pub last-refused : n + s .refused < 2 ^ 64
+  last-refused = omega (arith, h, end-lines p rest out r d s u, end-refused p rest out r d s u)
+
+pub ruleset end-laws = (last-lines, last-refused)
+
+-- ---- a part
+
+pub part-small : (s part : List ℕ) (from to : ℕ) → part ≡ take (to - from) (drop from s) → length s ≤ 70000 → length part ≤ 70000
+part-small s part from to e h = rw e (simp (length-take, length-drop) (omega (arith, h)))

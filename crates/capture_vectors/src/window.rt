@@ -1,0 +1,71 @@
+// The part of the input that is in the buffer.
+use crate::frame::FRAME_MOST;
+use crate::frame::run_frame;
+use libc::STDIN_FILENO;
+ghost use mathlib.Core.Path.{_≡_};
+ghost use Prim.Native.Nat.{_-_, _≤_};
+ghost use lib.ListN.{length};
+
+// What is still to run stands from index at up to index end.
+pub struct Window {
+    pub at: usize,
+    pub end: usize,
+    pub more: bool,
+}
+
+pub fn empty_window() -> Window
+    ensures { λ r. ⌜ (r .at ≡ 0) × (r .end ≡ 0) ⌝ }
+{
+    Window {
+        at: 0,
+        end: 0,
+        more: true,
+    }
+}
+
+// Moves the bytes from index a up to index e to the front.
+fn move_to_front(buf: &mut [u8], a: usize, e: usize)
+    requires { ⌜ e ≤ length (now buf) ⌝ }
+{
+    let mut i = a;
+    let mut to: usize = 0;
+    while i < e {
+        buf[to] = buf[i];
+        i += 1;
+        to += 1;
+    }
+}
+
+// Fills the buffer, unless it holds a whole frame already, so that not every frame moves what follows it.
+fn refill(w: Window, buf: &mut [u8]) -> Window
+    requires { ⌜ (w .at ≤ w .end) × (w .end ≤ length (now buf)) ⌝ }
+    ensures { λ r. ⌜ (r .at ≤ r .end) × (r .end ≤ length (now (buf .entry))) ⌝ }
+{
+    let kept = w.end - w.at;
+    if FRAME_MOST <= kept {
+        return w;
+    }
+    move_to_front(buf, w.at, w.end);
+    let got = io::read_full(STDIN_FILENO, &mut buf[kept..]);
+    Window {
+        at: 0,
+        end: kept + got,
+        more: true,
+    }
+}
+
+// Runs one frame.
+pub(crate) fn take_turn(before: Window, buf: &mut [u8], out: &mut [u8]) -> Window
+    requires { ⌜ (before .at ≤ before .end) × ((before .end ≤ length (now buf)) × (length (now buf) ≡ 70000)) ⌝ }
+    ensures { λ r. ⌜ (r .at ≤ r .end) × (r .end ≤ length (now (buf .entry))) ⌝ }
+{
+    let w = refill(before, buf);
+    let at = w.at;
+    let end = w.end;
+    let used = run_frame(&buf[at..end], out);
+    Window {
+        at: at + used,
+        end: end,
+        more: 0 < used,
+    }
+}

@@ -1,0 +1,83 @@
+use borrow.Author.Needs.{needs}
+use Prim.Native.Nat.{_+_, _*_, _≤_}
+use mathlib.Core.Path.{_≡_}
+use lib.ListN.{length}
+use Rattle.decode.proofs.main.Statement.{statement}
+use Rattle.decode.proofs.main.Tie as tie
+
+abbrev Inv-loop : tie.InvT-loop
+Inv-loop buf₀ out₀ run₀ turns₀ buf out run turns = (length buf ≡ 65536) × ((length out ≡ 524288) × ((run .kept ≤ 8266) × ((run .lines + 65536 * turns ≤ 9223372036854775808) × (run .refused ≤ run .lines))))
+
+abbrev μ-loop : tie.MeasureT-loop
+μ-loop buf₀ out₀ run₀ turns₀ buf out run turns = turns
+
+large-buffer-requires : tie.Need-large-buffer-requires Inv-loop μ-loop
+large-buffer-requires c κs = search needs
+
+output-buffer-requires : tie.Need-output-buffer-requires Inv-loop μ-loop
+output-buffer-requires c κs = search needs
+
+first-run-requires : tie.Need-first-run-requires Inv-loop μ-loop
+first-run-requires c κs = search needs
+
+loop-holds : tie.Need-loop-holds Inv-loop μ-loop
+loop-holds c = search needs
+
+slice-aggregate-take-turn : tie.Need-slice-aggregate-take-turn Inv-loop μ-loop
+slice-aggregate-take-turn c = search needs
+
+slice-aggregate-take-turn-2 : tie.Need-slice-aggregate-take-turn-2 Inv-loop μ-loop
+slice-aggregate-take-turn-2 c = search needs
+
+take-turn-requires : tie.Need-take-turn-requires Inv-loop μ-loop
+take-turn-requires c κs = search needs
+
+sub-turns : tie.Need-sub-turns Inv-loop μ-loop
+sub-turns c = search needs
+
+loop-less : tie.Need-loop-less Inv-loop μ-loop
+loop-less c = search needs
+
+loop-again : tie.Need-loop-again Inv-loop μ-loop
+loop-again c = search needs
+
+loop-less-2 : tie.Need-loop-less-2 Inv-loop μ-loop
+loop-less-2 c = search needs
+
+loop-again-2 : tie.Need-loop-again-2 Inv-loop μ-loop
+loop-again-2 c = search needs
+
+slice-aggregate-finish : tie.Need-slice-aggregate-finish Inv-loop μ-loop
+slice-aggregate-finish c = search needs
+
+slice-aggregate-finish-2 : tie.Need-slice-aggregate-finish-2 Inv-loop μ-loop
+slice-aggregate-finish-2 c = search needs
+
+finish-requires : tie.Need-finish-requires Inv-loop μ-loop
+finish-requires c κs = search needs
+
+returns : tie.Need-returns Inv-loop μ-loop
+returns c = search needs
+
+pub main-spec : {M : Type 1} → statement M
+main-spec =
+    tie.close
+    (tie.spec
+    Inv-loop
+    μ-loop
+    large-buffer-requires
+    output-buffer-requires
+    first-run-requires
+    loop-holds
+    slice-aggregate-take-turn
+    slice-aggregate-take-turn-2
+    take-turn-requires
+    sub-turns
+    loop-less
+    loop-again
+    loop-less-2
+    loop-again-2
+    slice-aggregate-finish
+    slice-aggregate-finish-2
+    finish-requires
+    returns)

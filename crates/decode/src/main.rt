@@ -1,0 +1,36 @@
+// Decodes a capture: standard input to standard output.
+mod run;
+mod turn;
+
+use crate::run::first_run;
+use crate::turn::finish;
+use crate::turn::take_turn;
+ghost use mathlib.Core.Path.{_≡_};
+ghost use lib.ListN.{length};
+
+// A proved loop has to end. 2 to the power 47 turns of at most 65,536 lines give at most 2 to the power 63, so that no sum overflows. Each turn
+// reads at least one byte, so that they are not used up: even byte by byte they last for 128 TiB.
+const TURNS: u64 = 140737488355328;
+
+// 8 bytes for each byte of the input's buffer: what decode_block asks for.
+fn output_buffer() -> [u8; 524288]
+    ensures { λ r. ⌜ 524288 ≡ length r ⌝ }
+{
+    [0; 524288]
+}
+
+fn main() {
+    let mut buf = io::large_buffer();
+    let mut out = output_buffer();
+    let mut run = first_run();
+    let mut turns: u64 = TURNS;
+    while 0 < turns {
+        run = take_turn(run, &mut buf, &mut out);
+        if run.more {
+            turns -= 1;
+        } else {
+            turns = 0;
+        }
+    }
+    finish(run, &buf, &mut out);
+}
