@@ -1,7 +1,7 @@
 -- What the loops and the fields ask of lists and numbers.
-use Prim.Native.Nat.{ℕ, suc, _+_, _*_, _/_, _%_, _^_, _≤_, _<_}
-use mathlib.Core.Path.{_≡_, refl, sym, ap, _∙_}
-use mathlib.Core.List.{List, [], _∷_, _++_, append-nil}
+use Prim.Native.Nat.{ℕ, _+_, _*_, _/_, _%_, _^_, _≤_, _<_}
+use mathlib.Core.Path.{_≡_, sym, ap, _∙_}
+use mathlib.Core.List.{List, _++_, append-nil}
 use native.Mathlib.Nat.{mod-add-mod, add-mul-mod-self-right}
 use native.Mathlib.Numerals.{add-one}
 use native.Mathlib.Omega.{arith}
@@ -9,12 +9,9 @@ use lib.Bits.{bitXor}
 use lib.ListN.{length, getD, set, drop, replicate, drop-of-length-le}
 use lib.Seq.{drop-cons}
 use borrow.Author.Fill.{fill-more}
-use borrow.Author.Tests.{lt-ltb}
-use Rattle.text.specs.Hex.{hexNumber}
-use Rattle.text.specs.Decimal.{decimalNumber}
-use Rattle.text.specs.declared.number.Parsed.{Parsed}
-use Rattle.text.specs.declared.number.Parsed.the-variants.{Number}
-use Rattle.text.proofs.Bounds.{decimal-lt, hex-lt}
+use Rattle.text.specs.Fields.{hexAfter}
+use Rattle.text.specs.declared.fields.Field.{Field}
+use Rattle.text.proofs.Bounds.{hex-after-lt}
 use Rattle.reads.specs.declared.table.Making.{Making}
 use Rattle.reads.specs.declared.table.Opening.{Opening}
 use Rattle.reads.specs.declared.table.Taking.{Taking}
@@ -23,11 +20,8 @@ use Rattle.calls.specs.Sum.{sumFrom}
 
 -- ---- numbers of a line
 
-pub decimal-le : (most n : ℕ) (s : List ℕ) (p : Parsed) → p ≡ decimalNumber most s → p ≡ Number n → n ≤ most
-decimal-le most n s p d e = omega (arith, decimal-lt most n (suc most) s p d e (lt-ltb most (suc most) (omega arith)))
-
-pub four-lt : (n : ℕ) (s : List ℕ) (p : Parsed) → p ≡ hexNumber s → p ≡ Number n → length s ≡ 4 → n < 65536
-four-lt n s p d e l = hex-lt n 4 65536 s p d e l refl
+pub four-lt : (s key : List ℕ) (before r : Field) → r ≡ hexAfter s before key 4 → r .value < 65536
+four-lt s key before r e = omega (arith, hex-after-lt s key before r 4 e)
 
 -- ---- a store filled up to index i
 

@@ -1,17 +1,19 @@
-// The forms of a line. A line has a form where the index after its last field is its end.
+// The forms of a line. A line has a form where its last field is good and ends the line.
 use crate::field::four_hex;
+use crate::field::is_whole;
 use crate::field::is_word;
 use crate::field::number;
-use crate::field::plain_hex;
 use bits::word::byte_at;
 use byte_enables::Access;
 use read_rules::continuation::Origin;
 use read_rules::request::ReadRequest;
 use read_rules::validity::Read;
+use text::fields::Field;
+use text::fields::line_start;
+use text::fields::plain_hex_after;
 use text::words::Value;
 use text::words::value_at;
 use tlp::settings::Settings;
-ghost use Prim.Native.Nat.{_≤_, _<_};
 
 pub struct OpenForm {
     pub request: ReadRequest,
@@ -61,37 +63,38 @@ const MOST_32: u64 = 4294967295;
 
 const MOST_64: u64 = 18446744073709551615;
 
+// Parts of a line; end is the last field of each.
 struct SettingsPart {
     settings: Settings,
-    next: usize,
+    end: Field,
 }
 
 // The line begins with key.
 fn settings_part(line: &[u8], key: &[u8]) -> SettingsPart {
-    let mps = number(line, 0, key, MOST_32);
-    let mrrs = number(line, mps.next, b" mrrs=", MOST_32);
-    let rcb = number(line, mrrs.next, b" rcb=", MOST_32);
+    let mps = number(line, line_start(), key, MOST_32);
+    let mrrs = number(line, mps, b" mrrs=", MOST_32);
+    let rcb = number(line, mrrs, b" rcb=", MOST_32);
     SettingsPart {
         settings: Settings {
             mps: mps.value as u32,
             mrrs: mrrs.value as u32,
             rcb: rcb.value as u32,
         },
-        next: rcb.next,
+        end: rcb,
     }
 }
 
 struct AccessPart {
     access: Access,
-    next: usize,
+    end: Field,
 }
 
-// The address has the key at index at.
-fn access_part(line: &[u8], at: usize, key: &[u8]) -> AccessPart {
-    let address = plain_hex(line, at, key);
-    let length = number(line, address.next, b" len=", MOST_32);
-    let first = number(line, length.next, b" first=", MOST_8);
-    let last = number(line, first.next, b" last=", MOST_8);
+// The address has the key.
+fn access_part(line: &[u8], before: Field, key: &[u8]) -> AccessPart {
+    let address = plain_hex_after(line, before, key);
+    let length = number(line, address, b" len=", MOST_32);
+    let first = number(line, length, b" first=", MOST_8);
+    let last = number(line, first, b" last=", MOST_8);
     AccessPart {
         access: Access {
             address: address.value,
@@ -99,7 +102,7 @@ fn access_part(line: &[u8], at: usize, key: &[u8]) -> AccessPart {
             first: first.value as u8,
             last: last.value as u8,
         },
-        next: last.next,
+        end: last,
     }
 }
 
@@ -108,19 +111,20 @@ struct ReadPart {
     access: Access,
     traffic_class: u8,
     attributes: u8,
-    next: usize,
+    end: Field,
 }
 
-fn read_part(line: &[u8], at: usize, key: &[u8]) -> ReadPart {
-    let p = access_part(line, at, key);
-    let class = number(line, p.next, b" tc=", MOST_8);
-    let attributes = number(line, class.next, b" attr=", MOST_8);
+fn read_part(line: &[u8], before: Field, key: &[u8]) -> ReadPart {
+    let p = access_part(line, before, key);
+    let end = p.end;
+    let class = number(line, end, b" tc=", MOST_8);
+    let attributes = number(line, class, b" attr=", MOST_8);
     let access = p.access;
     ReadPart {
         access: access,
         traffic_class: class.value as u8,
         attributes: attributes.value as u8,
-        next: attributes.next,
+        end: attributes,
     }
 }
 
@@ -136,8 +140,9 @@ fn request_of(p: ReadPart, start: u64) -> ReadRequest {
 
 fn new_form(line: &[u8]) -> Line {
     let p = settings_part(line, b"new mps=");
-    let requester = four_hex(line, p.next, b" req=");
-    if requester.next != line.len() {
+    let end = p.end;
+    let requester = four_hex(line, end, b" req=");
+    if !is_whole(line, requester) {
         return Line::Bad;
     }
     let settings = p.settings;
@@ -148,27 +153,28 @@ fn new_form(line: &[u8]) -> Line {
 }
 
 fn store_form(line: &[u8]) -> Line {
-    let len = number(line, 0, b"store len=", MOST_64);
-    if len.next != line.len() {
+    let len = number(line, line_start(), b"store len=", MOST_64);
+    if !is_whole(line, len) {
         return Line::Bad;
     }
     Line::Length(len.value)
 }
 
 fn fill_form(line: &[u8]) -> Line {
-    let byte = number(line, 0, b"fill byte=", MOST_8);
-    if byte.next != line.len() {
+    let byte = number(line, line_start(), b"fill byte=", MOST_8);
+    if !is_whole(line, byte) {
         return Line::Bad;
     }
     Line::Store(StoreForm::Fill(byte.value as u8))
 }
 
 fn open_form(line: &[u8]) -> Line {
-    let p = read_part(line, 0, b"open addr=");
-    let tag = number(line, p.next, b" tag=", MOST_32);
-    let start = number(line, tag.next, b" start=", MOST_64);
-    let out = number(line, start.next, b" out=", MOST_64);
-    if out.next != line.len() {
+    let p = read_part(line, line_start(), b"open addr=");
+    let end = p.end;
+    let tag = number(line, end, b" tag=", MOST_32);
+    let start = number(line, tag, b" start=", MOST_64);
+    let out = number(line, start, b" out=", MOST_64);
+    if !is_whole(line, out) {
         return Line::Bad;
     }
     Line::Call(Call::Open(OpenForm {
@@ -192,8 +198,8 @@ fn take_form(line: &[u8]) -> Line {
 }
 
 fn withdraw_form(line: &[u8]) -> Line {
-    let tag = number(line, 0, b"withdraw tag=", MOST_32);
-    if tag.next != line.len() {
+    let tag = number(line, line_start(), b"withdraw tag=", MOST_32);
+    if !is_whole(line, tag) {
         return Line::Bad;
     }
     Line::Call(Call::Withdraw(tag.value as u32))
@@ -207,17 +213,17 @@ fn owed_form(line: &[u8]) -> Line {
 }
 
 fn record_form(line: &[u8]) -> Line {
-    let tag = number(line, 0, b"record tag=", MOST_32);
-    if tag.next != line.len() {
+    let tag = number(line, line_start(), b"record tag=", MOST_32);
+    if !is_whole(line, tag) {
         return Line::Bad;
     }
     Line::Slot(SlotForm::Record(tag.value as u32))
 }
 
 fn bytes_form(line: &[u8]) -> Line {
-    let from = number(line, 0, b"bytes from=", MOST_64);
-    let len = number(line, from.next, b" len=", MOST_64);
-    if len.next != line.len() {
+    let from = number(line, line_start(), b"bytes from=", MOST_64);
+    let len = number(line, from, b" len=", MOST_64);
+    if !is_whole(line, len) {
         return Line::Bad;
     }
     Line::Store(StoreForm::Bytes {
@@ -234,11 +240,12 @@ fn sum_form(line: &[u8]) -> Line {
 }
 
 fn force_form(line: &[u8]) -> Line {
-    let tag = number(line, 0, b"force tag=", MOST_32);
-    let p = read_part(line, tag.next, b" addr=");
-    let start = number(line, p.next, b" start=", MOST_64);
-    let taken = number(line, start.next, b" taken=", MOST_32);
-    if taken.next != line.len() {
+    let tag = number(line, line_start(), b"force tag=", MOST_32);
+    let p = read_part(line, tag, b" addr=");
+    let end = p.end;
+    let start = number(line, end, b" start=", MOST_64);
+    let taken = number(line, start, b" taken=", MOST_32);
+    if !is_whole(line, taken) {
         return Line::Bad;
     }
     Line::Slot(SlotForm::Force(ForceForm {
@@ -252,7 +259,8 @@ fn force_form(line: &[u8]) -> Line {
 
 fn settings_form(line: &[u8]) -> Line {
     let p = settings_part(line, b"settings mps=");
-    if p.next != line.len() {
+    let end = p.end;
+    if !is_whole(line, end) {
         return Line::Bad;
     }
     let settings = p.settings;

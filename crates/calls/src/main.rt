@@ -13,6 +13,7 @@ use crate::console::first_console;
 use crate::print::print_bad;
 use crate::script::answer_lines;
 use bits::choice::lesser;
+use text::buffer::move_to_front;
 ghost use Prim.Native.Nat.{_+_, _≤_};
 ghost use lib.ListN.{length};
 
@@ -23,20 +24,6 @@ fn read_behind(buf: &mut [u8], kept: usize) -> usize
 {
     let answered = libc::read(0, &mut buf[kept..]);
     lesser(io::count(answered, buf), buf.len() - kept)
-}
-
-// Moves the bytes from index a up to index e to the front.
-fn move_to_front(buf: &mut [u8], a: usize, e: usize)
-    requires { ⌜ e ≤ length (now buf) ⌝ }
-{
-    let mut i = a;
-    let mut to: usize = 0;
-    while i < e {
-        let b = buf[i];
-        buf[to] = b;
-        i += 1;
-        to += 1;
-    }
 }
 
 // Keeps what has no end yet, from index used up to index n, and answers how many bytes that are. Of a line that is too long already, whatever

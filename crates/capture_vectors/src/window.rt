@@ -2,6 +2,7 @@
 use crate::frame::FRAME_MOST;
 use crate::frame::run_frame;
 use libc::STDIN_FILENO;
+use text::buffer::move_to_front;
 ghost use mathlib.Core.Path.{_≡_};
 ghost use Prim.Native.Nat.{_-_, _≤_};
 ghost use lib.ListN.{length};
@@ -20,19 +21,6 @@ pub fn empty_window() -> Window
         at: 0,
         end: 0,
         more: true,
-    }
-}
-
-// Moves the bytes from index a up to index e to the front.
-fn move_to_front(buf: &mut [u8], a: usize, e: usize)
-    requires { ⌜ e ≤ length (now buf) ⌝ }
-{
-    let mut i = a;
-    let mut to: usize = 0;
-    while i < e {
-        buf[to] = buf[i];
-        i += 1;
-        to += 1;
     }
 }
 

@@ -11,6 +11,7 @@ use capture_blocks::totals_follow;
 use capture_print::put_totals;
 use libc::STDIN_FILENO;
 use libc::STDOUT_FILENO;
+use text::buffer::move_to_front;
 use text::words::part;
 ghost use mathlib.Core.Path.{_≡_};
 ghost use Prim.Native.Nat.{_+_, _≤_};
@@ -23,19 +24,6 @@ fn print(out: &[u8], n: usize) -> bool {
         os::fail(b"write");
     }
     is_written
-}
-
-// Moves the bytes from index a up to index e to the front.
-fn move_to_front(buf: &mut [u8], a: usize, e: usize)
-    requires { ⌜ e ≤ length (now buf) ⌝ }
-{
-    let mut i = a;
-    let mut to: usize = 0;
-    while i < e {
-        buf[to] = buf[i];
-        i += 1;
-        to += 1;
-    }
 }
 
 // Decodes the first n bytes of buf, prints what they gave, and keeps what they left at the front.

@@ -1,16 +1,14 @@
 -- What fields after one another come to, return by return.
-use Prim.Native.Nat.{ℕ, _+_, _-_, _≤_}
-use mathlib.Core.Path.{_≡_, refl, sym, _∙_}
+use Prim.Native.Nat.{ℕ, _+_, _-_}
+use mathlib.Core.Path.{_≡_}
 use mathlib.Core.Bool.{Bool, true, false, not}
 use mathlib.Core.List.{List}
-use lib.Dec.{eqb}
 use lib.ListN.{length, take, drop}
 use borrow.Author.Tests.{eq-eqb, ne-eqb, not-true, not-false}
-use Rattle.bits.specs.Choice.{pick}
 use Rattle.text.specs.Decimal.{decimalNumber}
-use Rattle.text.specs.Hex.{hexNumber}
+use Rattle.text.specs.Hex.{hexNumber, hexPlain}
 use Rattle.text.specs.Words.{startsWith, valueAt}
-use Rattle.text.specs.Fields.{badField, parsedField, between, decimalAfter, hexAfter, keyAfter}
+use Rattle.text.specs.Fields.{badField, parsedField, decimalAfter, hexAfter, plainHexAfter, keyAfter}
 use Rattle.text.specs.declared.number.Parsed.{Parsed}
 use Rattle.text.specs.declared.number.Parsed.the-variants.{Number, Bad}
 use Rattle.text.specs.declared.words.Value.{Value}
@@ -59,6 +57,19 @@ module _ (s key : List ℕ) (before : Field) (r : Field) where
         unfolding hexAfter
         hex-found p h q f = rw (not-false (before .good) g, ← e, m, ← d, eq-eqb (length digits) width h, ← q) f
 
+  pub plain-bad : not (before .good) ≡ true → r ≡ badField → r ≡ plainHexAfter s before key
+  unfolding plainHexAfter
+  plain-bad h e = rw (not-true (before .good) h) e
+
+  module _ (v : Value) (e : v ≡ valueAt s (before .next) key) (g : not (before .good) ≡ false) where
+    pub plain-missing : v ≡ Missing → r ≡ badField → r ≡ plainHexAfter s before key
+    unfolding plainHexAfter
+    plain-missing m f = rw (not-false (before .good) g, ← e, m) f
+
+    pub plain-found : (from to : ℕ) (digits : List ℕ) (p : Parsed) → v ≡ Found from to → digits ≡ take (to - from) (drop from s) → p ≡ hexPlain digits → r ≡ parsedField p to → r ≡ plainHexAfter s before key
+    unfolding plainHexAfter
+    plain-found from to digits p m d q f = rw (not-false (before .good) g, ← e, m, ← d, ← q) f
+
   pub key-bad : not (before .good) ≡ true → r ≡ badField → r ≡ keyAfter s before key
   unfolding keyAfter
   key-bad h e = rw (not-true (before .good) h) e
@@ -75,5 +86,7 @@ key-found s key before b e g h = rw (not-false (before .good) g, ← e, not-fals
 pub ruleset decimal-field-laws = (decimal-bad, decimal-missing, decimal-found)
 
 pub ruleset hex-field-laws = (hex-bad, hex-missing, hex-wide, hex-found)
+
+pub ruleset plain-field-laws = (plain-bad, plain-missing, plain-found)
 
 pub ruleset key-laws = (key-bad, key-missing, key-found)

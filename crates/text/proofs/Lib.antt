@@ -6,6 +6,7 @@ pub mod HexLaws
 pub mod WordLaws
 pub mod FieldLaws
 pub mod RoundTrips
+pub mod BufferLaws
 pub mod Bounds
 pub mod LaidLaws
 pub mod FieldPlaces

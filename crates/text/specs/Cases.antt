@@ -5,6 +5,7 @@ use mathlib.Core.List.{List, [], _∷_, map}
 use mathlib.Core.Option.{some, none}
 use Rattle.bits.specs.Put.{put}
 use Rattle.text.specs.Laid.{laid, after}
+use Rattle.text.specs.Buffer.{movedToFront}
 use Rattle.text.specs.Digit.{hexValue, hexDigit, allDigits}
 use Rattle.text.specs.Number.{valueFrom, plain, plainly, empty, numberIn, digits, countTo}
 use Rattle.text.specs.Hex.{hexNumber, hexPlain, hexPlainText, pairs, bytesSpelled, spelledAnswer, spelledOver, frontAnswer, frontOver, hexText}
@@ -153,6 +154,11 @@ text-laid = refl
 pub text-after : map (λ (at : ℕ). after at (7 ∷ []) (1 ∷ 2 ∷ 3 ∷ [])) (1 ∷ 2 ∷ 3 ∷ []) ≡ 2 ∷ 3 ∷ 3 ∷ []
 unfolding after
 text-after = refl
+
+-- from index 1 on: up to index 4, up to past the end, and backwards
+pub front-moved : map (λ (to : ℕ). movedToFront 1 to (1 ∷ 2 ∷ 3 ∷ 4 ∷ 5 ∷ [])) (4 ∷ 9 ∷ 0 ∷ []) ≡ (2 ∷ 3 ∷ 4 ∷ 4 ∷ 5 ∷ []) ∷ (2 ∷ 3 ∷ 4 ∷ 5 ∷ 5 ∷ []) ∷ (1 ∷ 2 ∷ 3 ∷ 4 ∷ 5 ∷ []) ∷ []
+unfolding movedToFront put
+front-moved = refl
 
 -- "at=1 dir=tx tlp="
 abbrev line : List ℕ

@@ -6,7 +6,7 @@ use lib.Dec.{eqb}
 use lib.ListN.{length, take, drop}
 use Rattle.bits.specs.Choice.{pick}
 use Rattle.text.specs.Decimal.{decimalNumber}
-use Rattle.text.specs.Hex.{hexNumber}
+use Rattle.text.specs.Hex.{hexNumber, hexPlain}
 use Rattle.text.specs.Words.{startsWith, valueAt}
 use Rattle.text.specs.declared.number.Parsed.{Parsed}
 use Rattle.text.specs.declared.number.Parsed.the-variants.{Number, Bad}
@@ -45,6 +45,14 @@ hexIn s width Missing = badField
 -- a number in so many hexadecimal digits
 unfoldable pub hexAfter : List ℕ → Field → List ℕ → ℕ → Field
 hexAfter s before key width = pick (before .good) (hexIn s width (valueAt s (before .next) key)) badField
+
+abbrev pub plainHexIn : List ℕ → Value → Field
+plainHexIn s (Found from to) = parsedField (hexPlain (between s from to)) to
+plainHexIn s Missing = badField
+
+-- a hexadecimal number without leading zeros
+unfoldable pub plainHexAfter : List ℕ → Field → List ℕ → Field
+plainHexAfter s before key = pick (before .good) (plainHexIn s (valueAt s (before .next) key)) badField
 
 -- the key alone
 unfoldable pub keyAfter : List ℕ → Field → List ℕ → Field

@@ -1,4 +1,5 @@
 pub mod Laid
+pub mod Buffer
 pub mod Digit
 pub mod Number
 pub mod Hex

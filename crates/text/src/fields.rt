@@ -1,13 +1,14 @@
 // The fields of a line: keys in a fixed order, each followed by its value.
 use crate::decimal::decimal;
 use crate::hex::hex_number;
+use crate::hex::hex_plain;
 use crate::number::Parsed;
 use crate::words::Value;
 use crate::words::part;
 use crate::words::starts_with;
 use crate::words::value_at;
 ghost use mathlib.Core.Path.{_≡_};
-ghost use Rattle.text.specs.Fields.{lineStart, badField, parsedField, decimalAfter, hexAfter, keyAfter};
+ghost use Rattle.text.specs.Fields.{lineStart, badField, parsedField, decimalAfter, hexAfter, plainHexAfter, keyAfter};
 
 // Whether the line is good up to here, the last value, and the index after it.
 pub struct Field {
@@ -81,6 +82,20 @@ pub fn hex_after(s: &[u8], before: Field, key: &[u8], width: usize) -> Field
             }
             parsed_field(hex_number(digits), to)
         }
+    }
+}
+
+// A hexadecimal number without leading zeros.
+pub fn plain_hex_after(s: &[u8], before: Field, key: &[u8]) -> Field
+    ensures { λ r. ⌜ r ≡ plainHexAfter (now (s .entry)) before (now (key .entry)) ⌝ }
+{
+    if !before.good {
+        return bad_field();
+    }
+    let place = value_at(s, before.next, key);
+    match place {
+        Value::Missing => bad_field(),
+        Value::Found { from, to } => parsed_field(hex_plain(part(s, from, to)), to),
     }
 }
 

@@ -1,4 +1,5 @@
 // Numbers and words in lines of text, parsed and printed, for any input.
+pub mod buffer;
 pub mod decimal;
 pub mod fields;
 pub mod hex;
