@@ -3,3 +3,4 @@ pub mod PacketLineLaws
 pub mod PacketBytes
 pub mod RoomLaws
 pub mod FrontLaws
+pub mod Grammar

@@ -33,14 +33,14 @@ use Rattle.text.proofs.WordLaws.{starts-le}
 -- ---- an answer that is picked by a test
 
 -- the test held
-picked : {A : Type 0} (bad a : A) (t : Bool) (r : A) → pick t a bad ≡ r → (bad ≡ r → ⊥) → (t ≡ true) × (a ≡ r)
+pub picked : {A : Type 0} (bad a : A) (t : Bool) (r : A) → pick t a bad ≡ r → (bad ≡ r → ⊥) → (t ≡ true) × (a ≡ r)
 picked bad a true r e n = (refl, e)
 picked bad a false r e n = absurd (n e)
 
-number-good : (n : ℕ) → Bad ≡ Number n → ⊥
+pub number-good : (n : ℕ) → Bad ≡ Number n → ⊥
 number-good n e = let z : _≡_ {A = ℕ} 0 1 = cc in omega arith
 
-number-is : (v n : ℕ) → Number v ≡ Number n → v ≡ n
+pub number-is : (v n : ℕ) → Number v ≡ Number n → v ≡ n
 number-is v n e = cc
 
 -- ---- numbers
@@ -78,7 +78,7 @@ pub end-le : (s : List ℕ) (at : ℕ) → wordEnd s at ≤ length s
 unfolding wordEnd
 end-le s at = omega (arith, word-le (drop at s), length-drop at s)
 
-found-good : (from to : ℕ) → Missing ≡ Found from to → ⊥
+pub found-good : (from to : ℕ) → Missing ≡ Found from to → ⊥
 found-good from to e = let z : _≡_ {A = ℕ} 0 1 = cc in omega arith
 
 pub found-bounds : (s key : List ℕ) (at from to : ℕ) (v : Value) → v ≡ valueAt s at key → v ≡ Found from to → (at + length key ≡ from) × ((from ≤ to) × (to ≤ length s))

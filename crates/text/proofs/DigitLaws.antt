@@ -16,7 +16,7 @@ use Rattle.text.specs.Digit.{hexValue, hexDigit, allDigits}
 -- the value by the byte's place
 
 module _ (b : ℕ) where
-  value-below : b < 48 → 16 ≡ hexValue b
+  pub value-below : b < 48 → 16 ≡ hexValue b
   unfolding hexValue
   value-below h = rw (lt-leb 48 b h, lt-leb 97 b (omega arith))
 
@@ -24,7 +24,7 @@ module _ (b : ℕ) where
   unfolding hexValue
   value-number h k = rw (le-leb 48 b h, le-leb b 57 k)
 
-  value-between : 48 ≤ b → 57 < b → b < 97 → 16 ≡ hexValue b
+  pub value-between : 48 ≤ b → 57 < b → b < 97 → 16 ≡ hexValue b
   unfolding hexValue
   value-between g h k = rw (le-leb 48 b g, lt-leb b 57 h, lt-leb 97 b k)
 
@@ -32,7 +32,7 @@ module _ (b : ℕ) where
   unfolding hexValue
   value-letter g h k = rw (le-leb 48 b (omega arith), lt-leb b 57 g, le-leb 97 b h, le-leb b 102 k)
 
-  value-above : 102 < b → 16 ≡ hexValue b
+  pub value-above : 102 < b → 16 ≡ hexValue b
   unfolding hexValue
   value-above h = rw (le-leb 48 b (omega arith), lt-leb b 57 (omega arith), le-leb 97 b (omega arith), lt-leb b 102 h)
 

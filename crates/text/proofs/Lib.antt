@@ -10,3 +10,5 @@ pub mod BufferLaws
 pub mod Bounds
 pub mod LaidLaws
 pub mod FieldPlaces
+pub mod ExactLaws
+pub mod FieldTexts

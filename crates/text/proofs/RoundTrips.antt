@@ -45,7 +45,7 @@ some-digit (b ∷ s) h = refl
 
 module _ (base : ℕ) (p : 1 < base) where
   -- they are enough for the number
-  count-power : (k n : ℕ) → n < base ^ k → n < base ^ countTo base k n
+  pub count-power : (k n : ℕ) → n < base ^ k → n < base ^ countTo base k n
   unfolding countTo
   count-power zero n h = h
   count-power (suc k) n h =
@@ -72,7 +72,7 @@ module _ (base : ℕ) (p : 1 < base) where
   count-pos zero n l h = absurd (omega (arith, rw (pow-zero base) at h))
   count-pos (suc k) n l h = zero-lt-suc _
 
-  count-one : (n : ℕ) → n < base → digitCount base n ≡ 1
+  pub count-one : (n : ℕ) → n < base → digitCount base n ≡ 1
   unfolding countTo
   count-one n h = rw (lt-ltb n base h)
 
@@ -84,7 +84,7 @@ module _ (base : ℕ) (p : 1 < base) where
     last-digit : (n : ℕ) → hexValue (hexDigit (n % base)) ≡ n % base
     last-digit n = value-digit (n % base) ∙ mod-eq-of-lt (lt-of-lt-of-le (mod-lt n (omega arith)) q)
 
-    digits-good : (k n : ℕ) → allDigits base (digits base k n) ≡ true
+    pub digits-good : (k n : ℕ) → allDigits base (digits base k n) ≡ true
     unfolding digits allDigits
     digits-good zero n = refl
     digits-good (suc k) n =
