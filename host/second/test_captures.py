@@ -12,7 +12,9 @@ from pathlib import Path
 sys.dont_write_bytecode = True   # the imports below leave no compiled files behind
 
 import capture
+import checks
 import make_captures
+from checks import require
 
 ROOT = Path(__file__).resolve().parent.parent.parent
 STORED = ROOT / "crates" / "capture_vectors"
@@ -23,16 +25,6 @@ KINDS = {"MRd32", "MRd64", "MWr32", "MWr64", "IORd", "IOWr", "CfgRd0", "CfgWr0",
          "Msg", "MsgD", "Cpl", "CplD"}
 LEAST_FRAMES = 1_000
 LEAST_SAMPLE_NUMBERS = 8
-
-
-class Failure(Exception):
-    """The first thing found wrong."""
-
-
-def require(condition, text, *details):
-    """Stop with a failure unless the condition holds."""
-    if not condition:
-        raise Failure(text % details)
 
 
 def expect(what, data, output):
@@ -317,23 +309,15 @@ CHECKS = (check_whole_case, check_packets, check_payload_sizes, check_lines, che
           check_endings, check_headers, check_sample)
 
 
-def main():
-    """Run every check; 0 when all hold."""
-    try:
-        for check in CHECKS:
-            check()
-        frames = stored_frames()
-        counts = check_coverage(frames)
-    except Failure as failure:
-        print("second decoder: FAILED, %s" % failure, file=sys.stderr)
-        return 1
-    except Exception as error:   # one line, whatever went wrong
-        print("second decoder: FAILED, %s: %s" % (type(error).__name__, error), file=sys.stderr)
-        return 1
-    print("second decoder: good, %d captures in blocks; codes %s" % (
-        len(frames), " ".join("%d:%d" % pair for pair in sorted(counts.items()))))
-    return 0
+def all_checks():
+    """Run every check, and say what was checked."""
+    for check in CHECKS:
+        check()
+    frames = stored_frames()
+    counts = check_coverage(frames)
+    return "%d captures in blocks; codes %s" % (
+        len(frames), " ".join("%d:%d" % pair for pair in sorted(counts.items())))
 
 
 if __name__ == "__main__":
-    sys.exit(main())
+    sys.exit(checks.run("second decoder", all_checks))

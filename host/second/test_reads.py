@@ -10,24 +10,16 @@ from pathlib import Path
 
 sys.dont_write_bytecode = True   # the imports below leave no compiled files behind
 
+import checks
 import make_calls
 import reads
+from checks import require
 from make_vectors import packet
 from reads import Answer, Read, Table
 
 STORED = Path(__file__).resolve().parent.parent.parent / "crates" / "calls"
 LEAST_CALLS = 20_000
 TOP = 1 << 64
-
-
-class Failure(Exception):
-    """The first thing found wrong."""
-
-
-def require(condition, text, *details):
-    """Stop with a failure unless the condition holds."""
-    if not condition:
-        raise Failure(text % details)
 
 
 # ---------------------------------------------------------------------------------------------
@@ -508,22 +500,14 @@ CHECKS = (check_enables, check_cuttings, check_bytes, check_openings, check_head
           check_invalid, check_forced, check_console)
 
 
-def main():
-    """Run every check; 0 when all hold."""
-    try:
-        for check in CHECKS:
-            check()
-        calls = count_calls(*stored_files())
-    except Failure as failure:
-        print("second table: FAILED, %s" % failure, file=sys.stderr)
-        return 1
-    except Exception as error:   # one line, whatever went wrong
-        print("second table: FAILED, %s: %s" % (type(error).__name__, error), file=sys.stderr)
-        return 1
-    print("second table: good, %d table calls; %s" % (
-        sum(calls.values()), ", ".join("%s %d" % pair for pair in sorted(calls.items()))))
-    return 0
+def all_checks():
+    """Run every check, and say what was checked."""
+    for check in CHECKS:
+        check()
+    calls = count_calls(*stored_files())
+    return "%d table calls; %s" % (
+        sum(calls.values()), ", ".join("%s %d" % pair for pair in sorted(calls.items())))
 
 
 if __name__ == "__main__":
-    sys.exit(main())
+    sys.exit(checks.run("second table", all_checks))

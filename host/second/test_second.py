@@ -10,8 +10,10 @@ from pathlib import Path
 
 sys.dont_write_bytecode = True   # the imports below leave no compiled files behind
 
+import checks
 import make_vectors
 import tlp
+from checks import require
 
 STORED = Path(__file__).resolve().parent.parent.parent / "crates" / "tlp_vectors"
 NAMES = ("stdin", "stdout")
@@ -20,16 +22,6 @@ READ_NUMBERS = {0, 1, 2, 3, 4, 5, 6, 7, 8, 9, 10, 11}
 WRITE_NUMBERS = {0, 3, 5, 6, 7, 8, 11, 12}
 KINDS = set(range(1, 13))
 LEAST_LINES = 3000
-
-
-class Failure(Exception):
-    """The first thing found wrong."""
-
-
-def require(condition, text, *details):
-    """Stop with a failure unless the condition holds."""
-    if not condition:
-        raise Failure(text % details)
 
 
 # ---------------------------------------------------------------------------------------------
@@ -244,35 +236,24 @@ def check_routes():
 
 
 def summary(counts, trips):
-    """One line about what was checked."""
+    """What was checked."""
     shown = ["%s %s" % (name, " ".join("%d:%d" % pair for pair in sorted(counts[name].items())))
              for name in ("r", "w")]
     total = sum(counts["r"].values()) + sum(counts["w"].values())
-    return "second implementation: good, %d vectors, %d round trips; %s" % (
+    return "%d vectors, %d round trips; %s" % (
         total, trips, "; ".join(shown))
 
 
-def main():
-    """Run every check; 0 when all hold."""
-    try:
-        check_capture()
-        check_cases()
-        check_full_counts()
-        check_enables()
-        check_routes()
-        vectors = vectors_of(*generated_files())
-        counts = check_coverage(vectors)
-        trips = check_round_trips(vectors)
-    except Failure as failure:
-        print("second implementation: FAILED, %s" % failure, file=sys.stderr)
-        return 1
-    except Exception as error:   # one line, whatever went wrong
-        print("second implementation: FAILED, %s: %s" % (type(error).__name__, error),
-              file=sys.stderr)
-        return 1
-    print(summary(counts, trips))
-    return 0
+def all_checks():
+    """Run every check, and say what was checked."""
+    check_capture()
+    check_cases()
+    check_full_counts()
+    check_enables()
+    check_routes()
+    vectors = vectors_of(*generated_files())
+    return summary(check_coverage(vectors), check_round_trips(vectors))
 
 
 if __name__ == "__main__":
-    sys.exit(main())
+    sys.exit(checks.run("second implementation", all_checks))

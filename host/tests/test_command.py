@@ -12,7 +12,14 @@ import sys
 import tempfile
 from pathlib import Path
 
+sys.dont_write_bytecode = True   # the imports below leave no compiled files behind
+
 ROOT = Path(__file__).resolve().parent.parent.parent
+sys.path.insert(0, str(ROOT / "host" / "second"))
+
+import checks
+from checks import require
+
 TOOLS = ("cat", "cp", "dirname", "find", "kill", "mkdir", "mv", "readlink", "sh", "touch", "tr")
 
 PASS_ON = "#!/bin/sh\nprintf 'decoded '\nexec cat\n"
@@ -32,16 +39,6 @@ RT_IDLE = "#!/bin/sh\necho \"$@\" >>rt-words\n"
 RT_FAILING = "#!/bin/sh\necho 'not proved'\nexit 1\n"
 
 OLD, NEW, NEWER = 1_000_000_000, 1_000_000_100, 1_000_000_200
-
-
-class Failure(Exception):
-    """The first thing found wrong."""
-
-
-def require(condition, text, *details):
-    """Stop with a failure unless the condition holds."""
-    if not condition:
-        raise Failure(text % details)
 
 
 def write_program(path, text):
@@ -268,22 +265,14 @@ CHECKS = (check_help, check_codes, check_words, check_files, check_input, check_
           check_missing_rt, check_build, check_idle_build, check_failed_build)
 
 
-def main():
-    """Run every check; 0 when all hold."""
-    try:
-        with tempfile.TemporaryDirectory() as folder:
-            place = Place(folder)
-            for check in CHECKS:
-                check(place)
-    except Failure as failure:
-        print("command: FAILED, %s" % failure, file=sys.stderr)
-        return 1
-    except Exception as error:   # one line, whatever went wrong
-        print("command: FAILED, %s: %s" % (type(error).__name__, error), file=sys.stderr)
-        return 1
-    print("command: good, %d groups of tests" % len(CHECKS))
-    return 0
+def all_checks():
+    """Run every check, and say what was checked."""
+    with tempfile.TemporaryDirectory() as folder:
+        place = Place(folder)
+        for check in CHECKS:
+            check(place)
+    return "%d groups of tests" % len(CHECKS)
 
 
 if __name__ == "__main__":
-    sys.exit(main())
+    sys.exit(checks.run("command", all_checks))

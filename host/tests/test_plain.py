@@ -17,21 +17,13 @@ sys.dont_write_bytecode = True   # the imports below leave no compiled files beh
 ROOT = Path(__file__).resolve().parent.parent.parent
 sys.path.insert(0, str(ROOT / "host" / "second"))
 
+import checks
 import make_captures
+from checks import require
 
 SOURCE = ROOT / "host" / "bench" / "decode_plain.c"
 FLAGS = ("-O2", "-Wall", "-Wextra", "-Werror")
 BLOCKS = (1, 61, None)           # None: the size that the source has
-
-
-class Failure(Exception):
-    """The first thing found wrong."""
-
-
-def require(condition, text, *details):
-    """Stop with a failure unless the condition holds."""
-    if not condition:
-        raise Failure(text % details)
 
 
 def build(folder, block):
@@ -95,22 +87,13 @@ def check(decoded):
         check_failures(program)
 
 
-def main():
-    """Run every check; 0 when all hold."""
-    try:
-        require(shutil.which("cc"), "missing tool: cc (a C compiler)")
-        decoded = make_captures.make().decoded
-        check(decoded)
-    except Failure as failure:
-        print("plain decoder: FAILED, %s" % failure, file=sys.stderr)
-        return 1
-    except Exception as error:   # one line, whatever went wrong
-        print("plain decoder: FAILED, %s: %s" % (type(error).__name__, error), file=sys.stderr)
-        return 1
-    print("plain decoder: good, %d captures, each with %d sizes of block" % (
-        len(decoded), len(BLOCKS)))
-    return 0
+def all_checks():
+    """Run every check, and say what was checked."""
+    require(shutil.which("cc"), "missing tool: cc (a C compiler)")
+    decoded = make_captures.make().decoded
+    check(decoded)
+    return "%d captures, each with %d sizes of block" % (len(decoded), len(BLOCKS))
 
 
 if __name__ == "__main__":
-    sys.exit(main())
+    sys.exit(checks.run("plain decoder", all_checks))

@@ -2,3 +2,4 @@ pub mod ChoiceLaws
 pub mod FieldLaws
 pub mod CountLaws
 pub mod WordLaws
+pub mod PutLaws

@@ -1,29 +1,29 @@
 -- What the public calls answer, return by return.
 use Prim.Native.Nat.{ℕ, _+_, _-_, _*_, _/_, _≤_, _<_}
 use mathlib.Core.Path.{_≡_, refl, sym, _∙_, ap}
-use mathlib.Core.Bool.{true, false}
+use mathlib.Core.Bool.{Bool, true, false, not}
 use mathlib.Core.List.{List, [], _∷_, append-nil}
 use native.Mathlib.Nat.{zero-add, sub-zero}
 use native.Mathlib.Omega.{arith}
 use lib.ListN.{length}
-use borrow.Author.Tests.{le-leb, lt-leb}
+use borrow.Author.Tests.{le-leb, lt-leb, not-true, not-false}
 use Rattle.bits.specs.Put.{put}
 use Rattle.text.specs.Laid.{laid, after}
 use Rattle.text.proofs.PutLaws.{put-done}
-use Rattle.text.proofs.LaidLaws.{after-fits, laid-fits}
+use Rattle.text.proofs.LaidLaws.{after-nothing, laid-nothing}
 use Rattle.tlp.specs.declared.settings.Settings.{Settings}
 use Rattle.capture_lines.specs.Lines.{completeLines, unended}
-use Rattle.capture_print.specs.Outputs.{codeLine, outputLine}
+use Rattle.capture_print.specs.Outputs.{codeLine, outputLine, totalsLine}
 use Rattle.capture.specs.Decode.{Decoding, noLines, tailDecoded}
 use Rattle.capture_print.proofs.PrintLaws.{code-11, code-13}
-use Rattle.capture_blocks.specs.Blocks.{stepLines, stepFirst, stepSkipping, stepOf, endOf, totalsFollow}
+use Rattle.capture_blocks.specs.Blocks.{stepLines, stepFirst, stepSkipping, stepOf, endOf, totalsFollow, totalsOf}
 use Rattle.capture_blocks.specs.Answers.{stepIn, hasRoom, stepAnswer, stepOver, ending, endAnswer, endOver}
 use Rattle.capture_blocks.specs.declared.Progress.{Progress}
 use Rattle.capture_blocks.specs.declared.Progress.the-variants.{First, Lines, Skipping, Refused}
 use Rattle.capture_blocks.specs.declared.Step.{Step}
 use Rattle.capture_blocks.specs.declared.BlockAnswer.{BlockAnswer}
 use Rattle.capture_blocks.specs.declared.BlockAnswer.the-variants.{Stepped, Refused as BlockRefused}
-use Rattle.capture_blocks.proofs.StepReturns.{silent-step}
+use Rattle.capture_blocks.proofs.StepReturns.{silent-step, number-step, number-output}
 
 -- ---- step_within
 
@@ -101,16 +101,11 @@ module _ (p : Progress) (rest out : List ℕ) (r : Step) (out1 : List ℕ) where
   end-silent-output z = sym (put-done 0 out) ∙ ap (λ (y : Decoding). put 0 (y .output) out) (sym z)
 
   module _ (h : 8 ≤ length out) (n : ℕ) (e : length (codeLine n) ≡ 8) (k : ℕ) (z : endOf p rest ≡ record { output = codeLine n; lines = k; refused = k }) where
-    code-room : 0 + length (codeLine n) ≤ length out
-    code-room = omega (arith, h, e)
-
     end-code : (x : Progress) → p ≡ x → r ≡ record { progress = x; used = length rest; written = after 0 (codeLine n) out; lines = k; refused = k } → r ≡ stepIn (ending p rest) (length rest)
-    end-code x u d =
-        let y : r ≡ stepIn (record { progress = p; decoding = record { output = codeLine n; lines = k; refused = k }; left = 0 }) (length rest) = d ∙ rw (after-fits 0 (codeLine n) out code-room, zero-add (length (codeLine n)), sub-zero (length rest), u) in
-        y ∙ ap (λ (w : Decoding). stepIn (record { progress = p; decoding = w; left = 0 }) (length rest)) (sym z)
+    end-code x u d = number-step p (length rest) n k out h e r (d ∙ rw u) ∙ ap (λ (w : Decoding). stepIn (record { progress = p; decoding = w; left = 0 }) (length rest)) (sym z)
 
     end-code-output : out1 ≡ laid 0 (codeLine n) out → out1 ≡ put 0 (endOf p rest .output) out
-    end-code-output d = d ∙ (laid-fits 0 (codeLine n) out code-room ∙ ap (λ (w : Decoding). put 0 (w .output) out) (sym z))
+    end-code-output d = number-output p (length rest) n k out h e out1 d ∙ ap (λ (w : Decoding). put 0 (w .output) out) (sym z)
 
   module _ (u : p ≡ First) (h : 8 ≤ length out) where
     first-end : endOf p rest ≡ record { output = codeLine 11; lines = 0; refused = 0 }
@@ -219,3 +214,20 @@ module _ (p : Progress) where
   follow-refused u = rw u
 
 pub ruleset follow-laws = (follow-first, follow-lines, follow-skipping, follow-refused)
+
+-- ---- put_totals_after
+
+module _ (p : Progress) (lines refused at : ℕ) (out : List ℕ) (b : Bool) (e : b ≡ totalsFollow p) where
+  pub no-totals : not b ≡ true → at ≡ after at (totalsOf p lines refused) out
+  no-totals h = after-nothing at out ∙ rw (← e, not-true b h)
+
+  pub no-totals-output : not b ≡ true → out ≡ laid at (totalsOf p lines refused) out
+  no-totals-output h = laid-nothing at out ∙ rw (← e, not-true b h)
+
+  pub some-totals : (r : ℕ) → not b ≡ false → r ≡ after at (totalsLine lines refused) out → r ≡ after at (totalsOf p lines refused) out
+  some-totals r h d = d ∙ rw (← e, not-false b h)
+
+  pub some-totals-output : (out1 : List ℕ) → not b ≡ false → out1 ≡ laid at (totalsLine lines refused) out → out1 ≡ laid at (totalsOf p lines refused) out
+  some-totals-output out1 h d = d ∙ rw (← e, not-false b h)
+
+pub ruleset totals-laws = (no-totals, no-totals-output, some-totals, some-totals-output)

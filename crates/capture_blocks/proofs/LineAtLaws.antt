@@ -11,6 +11,7 @@ use lib.ListN.{length, take, drop, length-take, length-append, length-drop}
 use lib.Seq.{take-take, take-all, take-append-seam}
 use borrow.Author.Tests.{ltb-false, le-leb}
 use Rattle.bits.specs.Put.{put}
+use Rattle.bits.proofs.PutLaws.{length-put}
 use Rattle.text.specs.Laid.{laid, after}
 use Rattle.text.proofs.LaidLaws.{after-fits, laid-fits, front-laid}
 use Rattle.text.proofs.Order.{lt-or-le}
@@ -35,7 +36,7 @@ use Rattle.capture.proofs.FrontLaws.{front-output, front-refused}
 use Rattle.capture.proofs.PacketBytes.{packet-bytes}
 use Rattle.capture_blocks.specs.Answers.{lineDone, lineOver}
 use Rattle.capture_blocks.specs.declared.lines.LineDone.{LineDone}
-use Rattle.capture_blocks.proofs.LinesLaws.{refused-most, length-put}
+use Rattle.capture_blocks.proofs.LinesLaws.{refused-most}
 
 -- ---- the packet of a line, of which the front is enough for what is printed
 

@@ -9,6 +9,7 @@ use native.Mathlib.Numerals.{one-add}
 use lib.ListN.{length, drop, length-append, length-drop, length-take, drop-of-length-le}
 use lib.Seq.{drop-drop}
 use Rattle.bits.specs.Put.{put}
+use Rattle.bits.proofs.PutLaws.{length-put}
 use Rattle.text.proofs.PutLaws.{put-done}
 use Rattle.text.proofs.LaidLaws.{put-next}
 use Rattle.tlp.specs.declared.settings.Settings.{Settings}
@@ -35,10 +36,6 @@ pub record Going (c : Settings) (bytes : List ℕ) (from : ℕ) (out₀ : List �
   pub tail : unended (drop place bytes) ≡ unended (drop from bytes)
   pub few : lines ≤ place
   pub fewer : refused ≤ lines
-
-pub length-put : (at : ℕ) (a out : List ℕ) → at + length a ≤ length out → length (put at a out) ≡ length out
-unfolding put
-length-put at a out h = simp (length-append, length-drop, length-take) (omega arith)
 
 -- ---- one line
 

@@ -8,6 +8,7 @@ use native.Mathlib.Omega.{arith}
 use lib.ListN.{length, take, drop, length-append, length-drop}
 use borrow.Author.Tests.{lt-ltb, le-ltb}
 use Rattle.bits.specs.Put.{put}
+use Rattle.bits.proofs.PutLaws.{length-put}
 use Rattle.text.specs.Laid.{laid, after}
 use Rattle.text.proofs.PutLaws.{put-done}
 use Rattle.text.proofs.LaidLaws.{put-next, after-fits, laid-fits}
@@ -30,7 +31,6 @@ use Rattle.capture_blocks.specs.declared.Progress.{Progress}
 use Rattle.capture_blocks.specs.declared.Progress.the-variants.{First, Lines, Skipping, Refused}
 use Rattle.capture_blocks.specs.declared.Step.{Step}
 use Rattle.capture_blocks.specs.declared.lines.Tally.{Tally}
-use Rattle.capture_blocks.proofs.LinesLaws.{length-put}
 use Rattle.capture_blocks.proofs.DecodingLaws.{then, none-then, lines-then}
 
 -- ---- step_lines
@@ -104,17 +104,18 @@ module _ (c : Settings) (bytes : List ℕ) (from : ℕ) (out out1 : List ℕ) (t
 
 pub ruleset step-lines-laws = (lines-left, output-left, lines-skipped, output-skipped)
 
--- ---- a number alone, for the refusal of line one
+-- ---- a number alone
 
-module _ (size : ℕ) (out : List ℕ) (h : 8 ≤ length out) (r : Step) (out1 : List ℕ) where
-  code-room : (n : ℕ) → length (codeLine n) ≡ 8 → 0 + length (codeLine n) ≤ length out
-  code-room n e = omega (arith, h, e)
+module _ (p : Progress) (size n k : ℕ) (out : List ℕ) (h : 8 ≤ length out) (e : length (codeLine n) ≡ 8) where
+  number-room : 0 + length (codeLine n) ≤ length out
+  number-room = omega (arith, h, e)
 
-  refused-step : r ≡ record { progress = Refused; used = size; written = after 0 (codeLine 11) out; lines = 0; refused = 0 } → r ≡ stepIn headerRefused size
-  refused-step e = e ∙ rw (after-fits 0 (codeLine 11) out (code-room 11 code-11), zero-add (length (codeLine 11)), sub-zero size)
+  pub number-step : (r : Step) → r ≡ record { progress = p; used = size; written = after 0 (codeLine n) out; lines = k; refused = k }
+      → r ≡ stepIn (record { progress = p; decoding = record { output = codeLine n; lines = k; refused = k }; left = 0 }) size
+  number-step r d = d ∙ rw (after-fits 0 (codeLine n) out number-room, zero-add (length (codeLine n)), sub-zero size)
 
-  refused-output : out1 ≡ laid 0 (codeLine 11) out → out1 ≡ put 0 (headerRefused .decoding .output) out
-  refused-output e = e ∙ laid-fits 0 (codeLine 11) out (code-room 11 code-11)
+  pub number-output : (out1 : List ℕ) → out1 ≡ laid 0 (codeLine n) out → out1 ≡ put 0 (codeLine n) out
+  number-output out1 d = d ∙ laid-fits 0 (codeLine n) out number-room
 
 pub number-printed : (p : Progress) (size n k w : ℕ) (out : List ℕ) → w ≡ after 0 (codeLine n) out
     → _≡_ {A = Step} (record { progress = p; used = size; written = w; lines = k; refused = k }) (record { progress = p; used = size; written = after 0 (codeLine n) out; lines = k; refused = k })
@@ -134,10 +135,10 @@ module _ (bytes out : List ℕ) (end : ℕ) (text : List ℕ) (t : text ≡ take
     h = omega (arith, one, inside, room)
 
     pub header-bad : r ≡ record { progress = Refused; used = length bytes; written = after 0 (codeLine 11) out; lines = 0; refused = 0 } → r ≡ stepIn headed (length bytes)
-    header-bad d = refused-step (length bytes) out h r out1 d ∙ ap (λ (q : Stepping). stepIn q (length bytes)) (sym (headed-by Bad u))
+    header-bad d = number-step Refused (length bytes) 11 0 out h code-11 r d ∙ ap (λ (q : Stepping). stepIn q (length bytes)) (sym (headed-by Bad u))
 
     pub header-bad-output : out1 ≡ laid 0 (codeLine 11) out → out1 ≡ put 0 (headed .decoding .output) out
-    header-bad-output d = refused-output (length bytes) out h r out1 d ∙ ap (λ (q : Stepping). put 0 (q .decoding .output) out) (sym (headed-by Bad u))
+    header-bad-output d = number-output Refused (length bytes) 11 0 out h code-11 out1 d ∙ ap (λ (q : Stepping). put 0 (q .decoding .output) out) (sym (headed-by Bad u))
 
   module _ (x : Header) (u : v ≡ Good x) where
     pub header-good : r ≡ stepIn (stepLines (x .settings) (completeLines (drop end bytes)) (unended (drop end bytes))) (length bytes) → r ≡ stepIn headed (length bytes)
@@ -183,10 +184,10 @@ module _ (bytes out : List ℕ) (v : NextLine) (q : v ≡ nextLine bytes 0) (r :
   module _ (room : 8 * length bytes ≤ length out) where
     module _ (s : first ≡ headerRefused) (n : 1 ≤ length bytes) where
       first-bad : r ≡ record { progress = Refused; used = length bytes; written = after 0 (codeLine 11) out; lines = 0; refused = 0 } → r ≡ stepIn first (length bytes)
-      first-bad d = as-first headerRefused s (refused-step (length bytes) out (omega (arith, room, n)) r out1 d)
+      first-bad d = as-first headerRefused s (number-step Refused (length bytes) 11 0 out (omega (arith, room, n)) code-11 r d)
 
       first-bad-output : out1 ≡ laid 0 (codeLine 11) out → out1 ≡ put 0 (first .decoding .output) out
-      first-bad-output d = as-first-output headerRefused s (refused-output (length bytes) out (omega (arith, room, n)) r out1 d)
+      first-bad-output d = as-first-output headerRefused s (number-output Refused (length bytes) 11 0 out (omega (arith, room, n)) code-11 out1 d)
 
     module _ (end : ℕ) (u : v ≡ OverLong end) where
       long-first : first ≡ headerRefused

@@ -24,7 +24,7 @@ abbrev pub stepIn : Stepping → ℕ → Step
 stepIn s size =
     record { progress = s .progress; used = size - s .left; written = length (s .decoding .output); lines = s .decoding .lines; refused = s .decoding .refused }
 
--- no byte of a line prints more than 8
+-- a line prints at most 8 bytes for each of its bytes, the newline among them
 abbrev pub hasRoom : ℕ → List ℕ → Bool
 hasRoom size out = leb (8 * size) (length out)
 

@@ -60,18 +60,22 @@ endOf (Lines c) rest = tailDecoded rest
 endOf (Skipping c) rest = noLines
 endOf Refused rest = noLines
 
--- whether the totals follow
+-- whether the totals follow: not where line one is missing or bad
 unfoldable pub totalsFollow : Progress → Bool
 totalsFollow First = false
 totalsFollow (Lines c) = true
 totalsFollow (Skipping c) = true
 totalsFollow Refused = false
 
+-- the totals, where they follow
+abbrev pub totalsOf : Progress → ℕ → ℕ → List ℕ
+totalsOf p lines refused = pick (totalsFollow p) (totalsLine lines refused) []
+
 -- ---- a whole run
 
 -- lines and refused lines, summed over the steps
 unfoldable pub lastText : Progress → Decoding → ℕ → ℕ → List ℕ
-lastText p d lines refused = d .output ++ pick (totalsFollow p) (totalsLine (lines + d .lines) (refused + d .refused)) []
+lastText p d lines refused = d .output ++ totalsOf p (lines + d .lines) (refused + d .refused)
 
 unfoldable pub runFrom : Progress → List ℕ → ℕ → ℕ → List (List ℕ) → List ℕ
 runFrom p rest lines refused [] = lastText p (endOf p rest) lines refused

@@ -8,6 +8,7 @@ use capture_lines::NextLine;
 use capture_lines::TEXT_MOST;
 use capture_lines::next_line;
 use capture_print::put_code;
+use capture_print::put_totals;
 use text::words::part;
 use tlp::refusal::Refusal;
 use tlp::settings::Settings;
@@ -19,7 +20,7 @@ ghost use Rattle.text.specs.Laid.{laid, after};
 ghost use Rattle.capture_lines.specs.Lines.{completeLines, unended};
 ghost use Rattle.capture.specs.Headers.{headerLine};
 ghost use Rattle.capture_print.specs.Outputs.{codeLine};
-ghost use Rattle.capture_blocks.specs.Blocks.{stepLines, stepHeader, stepFirst, stepSkipping, stepOf, endOf, totalsFollow};
+ghost use Rattle.capture_blocks.specs.Blocks.{stepLines, stepHeader, stepFirst, stepSkipping, stepOf, endOf, totalsFollow, totalsOf};
 ghost use Rattle.capture_blocks.specs.Answers.{stepIn, ending, stepAnswer, stepOver, endAnswer, endOver};
 
 // How far a capture has been decoded.
@@ -207,8 +208,7 @@ pub fn decode_end(progress: Progress, rest: &[u8], out: &mut [u8]) -> BlockAnswe
     BlockAnswer::Stepped(end_within(progress, rest, out))
 }
 
-// Whether the totals follow.
-pub fn totals_follow(progress: Progress) -> bool
+fn totals_follow(progress: Progress) -> bool
     ensures { λ r. ⌜ r ≡ totalsFollow progress ⌝ }
 {
     match progress {
@@ -217,4 +217,14 @@ pub fn totals_follow(progress: Progress) -> bool
         Progress::Skipping(settings) => true,
         Progress::Refused => false,
     }
+}
+
+// The totals, where they follow, laid into out from index at on, and the index after them; at and nothing laid where they do not fit.
+pub fn put_totals_after(progress: Progress, lines: u64, refused: u64, at: usize, out: &mut [u8]) -> usize
+    ensures { λ r. ⌜ (r ≡ after at (totalsOf progress lines refused) (now (out .entry))) × (now (out .exit) ≡ laid at (totalsOf progress lines refused) (now (out .entry))) ⌝ }
+{
+    if !totals_follow(progress) {
+        return at;
+    }
+    put_totals(lines, refused, at, out)
 }

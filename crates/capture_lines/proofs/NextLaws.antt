@@ -91,25 +91,29 @@ module _ (s : List ℕ) (at : ℕ) (l : at ≤ length s) where
         let t : take (end - 1 - at) (drop at s) ≡ text = text-part text end (some-text s at l text texts e) k in
         rw (t, k) (complete-some text texts e, o)
 
-    ended-in : (ls : List (List ℕ)) (end : ℕ) → completeLines (drop at s) ≡ ls → v ≡ Ended end → Found false end
-    ended-in [] end e u = let w : Ended end ≡ Unended (length s) = sym u ∙ (q ∙ next-none s at l e) in let z : _≡_ {A = ℕ} 0 1 = cc in absurd (omega arith)
-    ended-in (text ∷ texts) end e u = by (overLong text) refl where
-      by : (r : Bool) → overLong text ≡ r → Found false end
-      by true o = let w : Ended end ≡ OverLong (suc (at + length text)) = sym u ∙ (q ∙ (next-some s at l text texts e ∙ rw o)) in let z : _≡_ {A = ℕ} 0 1 = cc in absurd (omega arith)
-      by false o = let w : Ended end ≡ Ended (suc (at + length text)) = sym u ∙ (q ∙ (next-some s at l text texts e ∙ rw o)) in found text texts false end e o cc
+    -- a line with its newline: over-long by r
+    abbrev lineOf : Bool → ℕ → NextLine
+    lineOf r end = pick r (OverLong end) (Ended end)
 
-    over-long-in : (ls : List (List ℕ)) (end : ℕ) → completeLines (drop at s) ≡ ls → v ≡ OverLong end → Found true end
-    over-long-in [] end e u = let w : OverLong end ≡ Unended (length s) = sym u ∙ (q ∙ next-none s at l e) in let z : _≡_ {A = ℕ} 0 1 = cc in absurd (omega arith)
-    over-long-in (text ∷ texts) end e u = by (overLong text) refl where
-      by : (r : Bool) → overLong text ≡ r → Found true end
-      by false o = let w : OverLong end ≡ Ended (suc (at + length text)) = sym u ∙ (q ∙ (next-some s at l text texts e ∙ rw o)) in let z : _≡_ {A = ℕ} 0 1 = cc in absurd (omega arith)
-      by true o = let w : OverLong end ≡ OverLong (suc (at + length text)) = sym u ∙ (q ∙ (next-some s at l text texts e ∙ rw o)) in found text texts true end e o cc
+    found-by : (text : List ℕ) (texts : List (List ℕ)) (r o : Bool) (end : ℕ) → completeLines (drop at s) ≡ text ∷ texts → overLong text ≡ o → lineOf r end ≡ lineOf o (suc (at + length text)) → Found r end
+    found-by text texts true true end e h w = found text texts true end e h cc
+    found-by text texts false false end e h w = found text texts false end e h cc
+    found-by text texts true false end e h w = let z : _≡_ {A = ℕ} 0 1 = cc in absurd (omega arith)
+    found-by text texts false true end e h w = let z : _≡_ {A = ℕ} 0 1 = cc in absurd (omega arith)
+
+    none-by : (r : Bool) (end size : ℕ) → lineOf r end ≡ Unended size → Found r end
+    none-by true end size w = let z : _≡_ {A = ℕ} 0 1 = cc in absurd (omega arith)
+    none-by false end size w = let z : _≡_ {A = ℕ} 0 1 = cc in absurd (omega arith)
+
+    line-in : (r : Bool) (ls : List (List ℕ)) (end : ℕ) → completeLines (drop at s) ≡ ls → v ≡ lineOf r end → Found r end
+    line-in r [] end e u = none-by r end (length s) (sym u ∙ (q ∙ next-none s at l e))
+    line-in r (text ∷ texts) end e u = found-by text texts r (overLong text) end e refl (sym u ∙ (q ∙ next-some s at l text texts e))
 
     pub unended-line : (end : ℕ) → v ≡ Unended end → (completeLines (drop at s) ≡ []) × (end ≡ length s)
     unended-line end u = unended-in (completeLines (drop at s)) end refl u
 
     pub ended-line : (end : ℕ) → v ≡ Ended end → Complete s at end (take (end - 1 - at) (drop at s)) × (overLong (take (end - 1 - at) (drop at s)) ≡ false)
-    ended-line end u = ended-in (completeLines (drop at s)) end refl u
+    ended-line end u = line-in false (completeLines (drop at s)) end refl u
 
     pub over-long-line : (end : ℕ) → v ≡ OverLong end → Complete s at end (take (end - 1 - at) (drop at s)) × (overLong (take (end - 1 - at) (drop at s)) ≡ true)
-    over-long-line end u = over-long-in (completeLines (drop at s)) end refl u
+    over-long-line end u = line-in true (completeLines (drop at s)) end refl u

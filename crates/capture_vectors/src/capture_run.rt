@@ -5,8 +5,7 @@ use capture_blocks::Progress;
 use capture_blocks::Step;
 use capture_blocks::decode_block;
 use capture_blocks::decode_end;
-use capture_blocks::totals_follow;
-use capture_print::put_totals;
+use capture_blocks::put_totals_after;
 use libc::STDOUT_FILENO;
 use text::words::part;
 ghost use mathlib.Core.Path.{_≡_};
@@ -82,14 +81,6 @@ fn feed(capture: &[u8], block: usize, out: &mut [u8]) -> Run
     run
 }
 
-// Lays the totals behind what ends at index at, where line one was good, and answers the index after them.
-fn put_end(progress: Progress, lines: usize, refused: usize, at: usize, out: &mut [u8]) -> usize {
-    if !totals_follow(progress) {
-        return at;
-    }
-    put_totals(lines as u64, refused as u64, at, out)
-}
-
 // Prints what the capture's last bytes give, and the totals.
 fn finish(run: Run, rest: &[u8], out: &mut [u8])
     requires { ⌜ (run .lines ≤ 70000) × (run .refused ≤ 70000) ⌝ }
@@ -100,10 +91,10 @@ fn finish(run: Run, rest: &[u8], out: &mut [u8])
         // Never with this size of out.
         BlockAnswer::Refused(r) => {}
         BlockAnswer::Stepped(step) => {
-            let written = put_end(
+            let written = put_totals_after(
                 progress,
-                run.lines + step.lines,
-                run.refused + step.refused,
+                (run.lines + step.lines) as u64,
+                (run.refused + step.refused) as u64,
                 step.written,
                 out,
             );

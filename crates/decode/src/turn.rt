@@ -7,8 +7,7 @@ use bits::choice::lesser;
 use capture_blocks::BlockAnswer;
 use capture_blocks::decode_block;
 use capture_blocks::decode_end;
-use capture_blocks::totals_follow;
-use capture_print::put_totals;
+use capture_blocks::put_totals_after;
 use libc::STDIN_FILENO;
 use libc::STDOUT_FILENO;
 use text::buffer::move_to_front;
@@ -64,15 +63,6 @@ pub(crate) fn take_turn(run: Run, buf: &mut [u8], out: &mut [u8]) -> Run
     take_step(run, buf, kept + got, out)
 }
 
-// Lays the totals behind what ends at index at, where line one was good, and answers the index after them.
-fn put_end(run: Run, at: usize, out: &mut [u8]) -> usize {
-    let progress = run.progress;
-    if !totals_follow(progress) {
-        return at;
-    }
-    put_totals(run.lines, run.refused, at, out)
-}
-
 // Prints what the kept bytes give, and the totals.
 pub(crate) fn finish(run: Run, buf: &[u8], out: &mut [u8])
     requires { ⌜ (run .lines ≤ 9223372036854775808) × (run .refused ≤ run .lines) ⌝ }
@@ -84,7 +74,7 @@ pub(crate) fn finish(run: Run, buf: &[u8], out: &mut [u8])
         BlockAnswer::Refused(r) => {}
         BlockAnswer::Stepped(step) => {
             let last = advanced(run, step, 0);
-            let written = put_end(last, step.written, out);
+            let written = put_totals_after(progress, last.lines, last.refused, step.written, out);
             print(out, written);
         }
     }

@@ -12,6 +12,7 @@ use lib.ListN.{length, drop, length-append, length-take, length-drop}
 use borrow.Author.Tests.{leb-true, ltb-true, le-leb, lt-leb, lt-ltb, eqb-true}
 use Rattle.bits.specs.Choice.{pick}
 use Rattle.bits.specs.Put.{put}
+use Rattle.bits.proofs.PutLaws.{length-put}
 use Rattle.text.specs.Laid.{fits, laid, after}
 use Rattle.text.specs.Digit.{allDigits}
 use Rattle.text.specs.Number.{value, plain, plainly, empty, numberIn}
@@ -139,10 +140,6 @@ spelled-le (some bytes) out n r d e =
     let f = picked NoBytes (Bytes (length bytes)) (fits 0 bytes out) (Bytes n) (sym d ∙ e) (λ (b : NoBytes ≡ Bytes n). let z : _≡_ {A = ℕ} 0 1 = cc in omega arith) in
     let l : length bytes ≡ n = cc (f .1) in
     omega (arith, leb-true (0 + length bytes) (length out) (f .0))
-
-length-put : (at : ℕ) (src out : List ℕ) → at + length src ≤ length out → length (put at src out) ≡ length out
-unfolding put
-length-put at src out h = simp (length-append, length-drop, length-take) (omega arith)
 
 module _ (at : ℕ) (src out : List ℕ) where
   pub length-laid : length (laid at src out) ≡ length out

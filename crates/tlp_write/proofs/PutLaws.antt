@@ -38,7 +38,3 @@ put-front xs out = rw zero-add
 pub put-next : (a b out : List ℕ) → put (length a) b (put 0 a out) ≡ put 0 (a ++ b) out
 unfolding put
 put-next a b out = simp (zero-add, take-append-seam, drop-append-add, drop-drop, length-append, append-assoc)
-
-pub length-put : (at : ℕ) (src out : List ℕ) → at + length src ≤ length out → length (put at src out) ≡ length out
-unfolding put
-length-put at src out h = simp (length-append, length-drop, length-take) (omega arith)

@@ -25,7 +25,8 @@ use Rattle.tlp_given.specs.Given.{givenRows}
 use Rattle.bits.specs.Put.{put}
 use Rattle.tlp_write.specs.Layout.{headerOf, digestOf, bytesOf, sizeOf}
 use Rattle.tlp_write.specs.Write.{laterRows, writeRows, writeAnswer, writePacket, overFront, writeOut}
-use Rattle.tlp_write.proofs.PutLaws.{put-front, put-next, length-put}
+use Rattle.bits.proofs.PutLaws.{length-put}
+use Rattle.tlp_write.proofs.PutLaws.{put-front, put-next}
 use Rattle.tlp_write.proofs.LayoutLaws.{header-length}
 
 pub size-law : (p : Packet) (t : PacketType) (a : Access) (h d g : ℕ) → t ≡ typeOf p → a ≡ accessOf p → h ≡ headerDw t → d ≡ dataBytes t (a .length)
