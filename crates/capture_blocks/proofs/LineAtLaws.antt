@@ -1,5 +1,5 @@
 -- What one line comes to, return by return.
-use Prim.Native.Nat.{ℕ, suc, _+_, _-_, _*_, _≤_, _<_, min}
+use Prim.Native.Nat.{ℕ, _+_, _-_, _*_, _≤_, _<_, min}
 use mathlib.Core.Logic.{⊎-elim}
 use mathlib.Core.Path.{_≡_, refl, sym, _∙_, ap}
 use mathlib.Core.Bool.{true, false}
@@ -7,13 +7,13 @@ use mathlib.Core.List.{List}
 use mathlib.Core.Option.{Option, some, none}
 use native.Mathlib.Nat.{sub-zero}
 use native.Mathlib.Omega.{arith}
-use lib.ListN.{length, take, drop, length-take, length-append, length-drop}
+use lib.ListN.{length, take, drop, length-take}
 use lib.Seq.{take-take, take-all, take-append-seam}
 use borrow.Author.Tests.{ltb-false, le-leb}
 use Rattle.bits.specs.Put.{put}
 use Rattle.bits.proofs.PutLaws.{length-put}
 use Rattle.text.specs.Laid.{laid, after}
-use Rattle.text.proofs.LaidLaws.{after-fits, laid-fits, front-laid}
+use Rattle.text.proofs.LaidLaws.{after-fits, laid-fits}
 use Rattle.text.proofs.Order.{lt-or-le}
 use Rattle.text.proofs.Bounds.{length-laid}
 use Rattle.tlp.specs.declared.settings.Settings.{Settings}

@@ -6,7 +6,7 @@ use mathlib.Core.List.{List, [], _∷_}
 use native.Mathlib.Omega.{arith}
 use native.Mathlib.Nat.{add-assoc, add-zero, zero-add}
 use native.Mathlib.Numerals.{one-add}
-use lib.ListN.{length, drop, length-append, length-drop, length-take, drop-of-length-le}
+use lib.ListN.{length, drop, length-append, length-drop, drop-of-length-le}
 use lib.Seq.{drop-drop}
 use Rattle.bits.specs.Put.{put}
 use Rattle.bits.proofs.PutLaws.{length-put}

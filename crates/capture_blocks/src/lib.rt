@@ -220,7 +220,13 @@ fn totals_follow(progress: Progress) -> bool
 }
 
 // The totals, where they follow, laid into out from index at on, and the index after them; at and nothing laid where they do not fit.
-pub fn put_totals_after(progress: Progress, lines: u64, refused: u64, at: usize, out: &mut [u8]) -> usize
+pub fn put_totals_after(
+    progress: Progress,
+    lines: u64,
+    refused: u64,
+    at: usize,
+    out: &mut [u8],
+) -> usize
     ensures { λ r. ⌜ (r ≡ after at (totalsOf progress lines refused) (now (out .entry))) × (now (out .exit) ≡ laid at (totalsOf progress lines refused) (now (out .entry))) ⌝ }
 {
     if !totals_follow(progress) {

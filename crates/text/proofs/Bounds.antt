@@ -8,10 +8,9 @@ use mathlib.Core.Option.{Option, some, none}
 use native.Mathlib.Nat.{one-le-pow, zero-lt-suc}
 use native.Mathlib.Omega.{arith}
 use lib.Dec.{leb, ltb, eqb}
-use lib.ListN.{length, drop, length-append, length-take, length-drop}
+use lib.ListN.{length, drop, length-drop}
 use borrow.Author.Tests.{leb-true, ltb-true, le-leb, lt-leb, lt-ltb, eqb-true}
 use Rattle.bits.specs.Choice.{pick}
-use Rattle.bits.specs.Put.{put}
 use Rattle.bits.proofs.PutLaws.{length-put}
 use Rattle.text.specs.Laid.{fits, laid, after}
 use Rattle.text.specs.Digit.{allDigits}
@@ -19,7 +18,7 @@ use Rattle.text.specs.Number.{value, plain, plainly, empty, numberIn}
 use Rattle.text.specs.Hex.{hexNumber, spelledAnswer}
 use Rattle.text.specs.Decimal.{decimalNumber}
 use Rattle.text.specs.Words.{wordLength, wordEnd, startsWith, valueAt}
-use Rattle.text.specs.Fields.{badField, parsedField, between, decimalIn, hexIn, decimalAfter, hexAfter}
+use Rattle.text.specs.Fields.{badField, parsedField, between, readIn, fixedHex, decimalAfter, hexAfter}
 use Rattle.text.specs.declared.number.Parsed.{Parsed}
 use Rattle.text.specs.declared.number.Parsed.the-variants.{Number, Bad}
 use Rattle.text.specs.declared.hex.Spelled.{Spelled}
@@ -106,7 +105,7 @@ some-16 : (width : ℕ) → 0 < 16 ^ width
 some-16 width = one-le-pow width 16 (zero-lt-suc 15)
 
 module _ (s key : List ℕ) (before r : Field) where
-  decimal-in-lt : (most : ℕ) (v : Value) → decimalIn s most v .value < suc most
+  decimal-in-lt : (most : ℕ) (v : Value) → readIn (decimalNumber most) s v .value < suc most
   decimal-in-lt most (Found from to) =
       let p : Parsed = decimalNumber most (between s from to) in
       parsed-lt p p to (suc most) refl (omega arith) (λ (n : ℕ) (h : p ≡ Number n). decimal-lt most n (suc most) (between s from to) p refl h (lt-ltb most (suc most) (omega arith)))
@@ -116,20 +115,22 @@ module _ (s key : List ℕ) (before r : Field) where
   unfolding decimalAfter
   decimal-after-le most e =
       let v : Value = valueAt s (before .next) key in
-      omega (arith, ap (λ (f : Field). f .value) e, bad-or (before .good) (decimalIn s most v) (suc most) (omega arith) (λ (g : before .good ≡ true). decimal-in-lt most v))
+      omega (arith, ap (λ (f : Field). f .value) e, bad-or (before .good) (readIn (decimalNumber most) s v) (suc most) (omega arith) (λ (g : before .good ≡ true). decimal-in-lt most v))
 
-  hex-in-lt : (width : ℕ) (v : Value) → hexIn s width v .value < 16 ^ width
+  hex-in-lt : (width : ℕ) (v : Value) → readIn (fixedHex width) s v .value < 16 ^ width
   hex-in-lt width (Found from to) =
       let digits : List ℕ = between s from to in
-      let p : Parsed = hexNumber digits in
-      bad-or (eqb (length digits) width) (parsedField p to) (16 ^ width) (some-16 width) (λ (g : eqb (length digits) width ≡ true). parsed-lt p p to (16 ^ width) refl (some-16 width) (λ (n : ℕ) (h : p ≡ Number n). hex-lt n width (16 ^ width) digits p refl h (eqb-true (length digits) width g) (le-leb (16 ^ width) (16 ^ width) (omega arith))))
+      let p : Parsed = fixedHex width digits in
+      parsed-lt p p to (16 ^ width) refl (some-16 width) (λ (n : ℕ) (h : p ≡ Number n).
+      let f = picked Bad (hexNumber digits) (eqb (length digits) width) (Number n) h (number-good n) in
+      hex-lt n width (16 ^ width) digits (hexNumber digits) refl (f .1) (eqb-true (length digits) width (f .0)) (le-leb (16 ^ width) (16 ^ width) (omega arith)))
   hex-in-lt width Missing = some-16 width
 
   pub hex-after-lt : (width : ℕ) → r ≡ hexAfter s before key width → r .value < 16 ^ width
   unfolding hexAfter
   hex-after-lt width e =
       let v : Value = valueAt s (before .next) key in
-      omega (arith, ap (λ (f : Field). f .value) e, bad-or (before .good) (hexIn s width v) (16 ^ width) (some-16 width) (λ (g : before .good ≡ true). hex-in-lt width v))
+      omega (arith, ap (λ (f : Field). f .value) e, bad-or (before .good) (readIn (fixedHex width) s v) (16 ^ width) (some-16 width) (λ (g : before .good ≡ true). hex-in-lt width v))
 
 -- ---- outputs
 

@@ -8,7 +8,7 @@ use borrow.Author.Tests.{eq-eqb, ne-eqb, not-true, not-false}
 use Rattle.text.specs.Decimal.{decimalNumber}
 use Rattle.text.specs.Hex.{hexNumber, hexPlain}
 use Rattle.text.specs.Words.{startsWith, valueAt}
-use Rattle.text.specs.Fields.{badField, parsedField, decimalAfter, hexAfter, plainHexAfter, keyAfter}
+use Rattle.text.specs.Fields.{badField, parsedField, readAfter, fixedHex, decimalAfter, hexAfter, plainHexAfter, keyAfter}
 use Rattle.text.specs.declared.number.Parsed.{Parsed}
 use Rattle.text.specs.declared.number.Parsed.the-variants.{Number, Bad}
 use Rattle.text.specs.declared.words.Value.{Value}
@@ -24,51 +24,63 @@ parsed-bad p next r e f = rw e f
 pub ruleset parsed-laws = (parsed-number, parsed-bad)
 
 module _ (s key : List ℕ) (before : Field) (r : Field) where
+  -- whatever reads the value
+  module _ (parse : List ℕ → Parsed) where
+    read-bad : not (before .good) ≡ true → r ≡ badField → r ≡ readAfter parse s before key
+    read-bad h e = rw (not-true (before .good) h) e
+
+    module _ (v : Value) (e : v ≡ valueAt s (before .next) key) (g : not (before .good) ≡ false) where
+      read-missing : v ≡ Missing → r ≡ badField → r ≡ readAfter parse s before key
+      read-missing m f = rw (not-false (before .good) g, ← e, m) f
+
+      read-found : (from to : ℕ) (digits : List ℕ) (p : Parsed) → v ≡ Found from to → digits ≡ take (to - from) (drop from s) → p ≡ parse digits → r ≡ parsedField p to → r ≡ readAfter parse s before key
+      read-found from to digits p m d q f = rw (not-false (before .good) g, ← e, m, ← d, ← q) f
+
   module _ (most : ℕ) where
     pub decimal-bad : not (before .good) ≡ true → r ≡ badField → r ≡ decimalAfter s before key most
     unfolding decimalAfter
-    decimal-bad h e = rw (not-true (before .good) h) e
+    decimal-bad = read-bad (decimalNumber most)
 
     module _ (v : Value) (e : v ≡ valueAt s (before .next) key) (g : not (before .good) ≡ false) where
       pub decimal-missing : v ≡ Missing → r ≡ badField → r ≡ decimalAfter s before key most
       unfolding decimalAfter
-      decimal-missing m f = rw (not-false (before .good) g, ← e, m) f
+      decimal-missing = read-missing (decimalNumber most) v e g
 
       pub decimal-found : (from to : ℕ) (digits : List ℕ) (p : Parsed) → v ≡ Found from to → digits ≡ take (to - from) (drop from s) → p ≡ decimalNumber most digits → r ≡ parsedField p to → r ≡ decimalAfter s before key most
       unfolding decimalAfter
-      decimal-found from to digits p m d q f = rw (not-false (before .good) g, ← e, m, ← d, ← q) f
+      decimal-found = read-found (decimalNumber most) v e g
 
   module _ (width : ℕ) where
     pub hex-bad : not (before .good) ≡ true → r ≡ badField → r ≡ hexAfter s before key width
     unfolding hexAfter
-    hex-bad h e = rw (not-true (before .good) h) e
+    hex-bad = read-bad (fixedHex width)
 
     module _ (v : Value) (e : v ≡ valueAt s (before .next) key) (g : not (before .good) ≡ false) where
       pub hex-missing : v ≡ Missing → r ≡ badField → r ≡ hexAfter s before key width
       unfolding hexAfter
-      hex-missing m f = rw (not-false (before .good) g, ← e, m) f
+      hex-missing = read-missing (fixedHex width) v e g
 
       module _ (from to : ℕ) (digits : List ℕ) (m : v ≡ Found from to) (d : digits ≡ take (to - from) (drop from s)) where
         pub hex-wide : (length digits ≡ width → ⊥) → r ≡ badField → r ≡ hexAfter s before key width
         unfolding hexAfter
-        hex-wide h f = rw (not-false (before .good) g, ← e, m, ← d, ne-eqb (length digits) width h) f
+        hex-wide h f = read-found (fixedHex width) v e g from to digits Bad m d (rw (ne-eqb (length digits) width h)) f
 
         pub hex-found : (p : Parsed) → length digits ≡ width → p ≡ hexNumber digits → r ≡ parsedField p to → r ≡ hexAfter s before key width
         unfolding hexAfter
-        hex-found p h q f = rw (not-false (before .good) g, ← e, m, ← d, eq-eqb (length digits) width h, ← q) f
+        hex-found p h q f = read-found (fixedHex width) v e g from to digits p m d (rw (eq-eqb (length digits) width h) q) f
 
   pub plain-bad : not (before .good) ≡ true → r ≡ badField → r ≡ plainHexAfter s before key
   unfolding plainHexAfter
-  plain-bad h e = rw (not-true (before .good) h) e
+  plain-bad = read-bad hexPlain
 
   module _ (v : Value) (e : v ≡ valueAt s (before .next) key) (g : not (before .good) ≡ false) where
     pub plain-missing : v ≡ Missing → r ≡ badField → r ≡ plainHexAfter s before key
     unfolding plainHexAfter
-    plain-missing m f = rw (not-false (before .good) g, ← e, m) f
+    plain-missing = read-missing hexPlain v e g
 
     pub plain-found : (from to : ℕ) (digits : List ℕ) (p : Parsed) → v ≡ Found from to → digits ≡ take (to - from) (drop from s) → p ≡ hexPlain digits → r ≡ parsedField p to → r ≡ plainHexAfter s before key
     unfolding plainHexAfter
-    plain-found from to digits p m d q f = rw (not-false (before .good) g, ← e, m, ← d, ← q) f
+    plain-found = read-found hexPlain v e g
 
   pub key-bad : not (before .good) ≡ true → r ≡ badField → r ≡ keyAfter s before key
   unfolding keyAfter

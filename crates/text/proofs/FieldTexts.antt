@@ -15,7 +15,7 @@ use Rattle.text.specs.Number.{digits, digitCount}
 use Rattle.text.specs.Decimal.{decimalNumber, decimalText}
 use Rattle.text.specs.Hex.{hexNumber}
 use Rattle.text.specs.Words.{wordLength, wordEnd, beginsWith, startsWith, valueAt}
-use Rattle.text.specs.Fields.{badField, parsedField, between, decimalIn, decimalAfter, hexIn, hexAfter, keyAfter}
+use Rattle.text.specs.Fields.{badField, parsedField, between, readIn, fixedHex, decimalAfter, hexAfter, keyAfter}
 use Rattle.text.specs.declared.number.Parsed.{Parsed}
 use Rattle.text.specs.declared.number.Parsed.the-variants.{Number, Bad}
 use Rattle.text.specs.declared.words.Value.{Value}
@@ -23,7 +23,7 @@ use Rattle.text.specs.declared.words.Value.the-variants.{Found, Missing}
 use Rattle.text.specs.declared.fields.Field.{Field}
 use Rattle.text.proofs.Order.{and-left, and-right}
 use Rattle.text.proofs.NumberLaws.{length-digits}
-use Rattle.text.proofs.Bounds.{picked, found-good, found-bounds}
+use Rattle.text.proofs.Bounds.{picked, found-good, found-bounds, number-good}
 use Rattle.text.proofs.RoundTrips.{digits-good, decimal-trip, hex-fixed-trip}
 use Rattle.text.proofs.ExactLaws.{digit-no-space, decimal-is, hex-is}
 
@@ -141,7 +141,7 @@ module _ (s key : List ℕ) (before : Field) where
   parsed-says text from to Bad d f g = absurd (false≢true g)
 
   module _ (most : ℕ) where
-    decimal-in : most < 2 ^ 64 → (v : Value) → valueAt s (before .next) key ≡ v → decimalIn s most v .good ≡ true → Says s key before decimalText (decimalIn s most v)
+    decimal-in : most < 2 ^ 64 → (v : Value) → valueAt s (before .next) key ≡ v → readIn (decimalNumber most) s v .good ≡ true → Says s key before decimalText (readIn (decimalNumber most) s v)
     decimal-in m (Found from to) d g = parsed-says decimalText from to (decimalNumber most (between s from to)) d (λ (n : ℕ) (h : decimalNumber most (between s from to) ≡ Number n). decimal-is most n (between s from to) m h .0) g
     decimal-in m Missing d g = absurd (false≢true g)
 
@@ -149,7 +149,7 @@ module _ (s key : List ℕ) (before : Field) where
     unfolding decimalAfter
     decimal-says m g =
         let v = valueAt s (before .next) key in
-        let f = picked-field (before .good) (decimalIn s most v) g in
+        let f = picked-field (before .good) (readIn (decimalNumber most) s v) g in
         (f .0, rw (f .0) (decimal-in m v refl (f .1)))
 
     pub decimal-stands : (n : ℕ) (rest : List ℕ) → n ≤ most → n < 2 ^ 64 → wordLength rest ≡ 0 → Stands s before (key ++ (decimalText n ++ rest))
@@ -161,23 +161,23 @@ module _ (s key : List ℕ) (before : Field) where
         let e = st .1 .1 in
         let w = word-digits 10 d rest (omega arith) (digits-good 10 (omega arith) (omega arith) (digitCount 10 n) n) z in
         let to = before .next + length key + length d in
-        let f : pick (before .good) (decimalIn s most (valueAt s (before .next) key)) badField ≡ record { good = true; value = n; next = to } = rw (st .0, value-is s key d rest (before .next) k e w, value-part s key d rest (before .next) k e, decimal-trip most n h l) in
+        let f : pick (before .good) (readIn (decimalNumber most) s (valueAt s (before .next) key)) badField ≡ record { good = true; value = n; next = to } = rw (st .0, value-is s key d rest (before .next) k e w, value-part s key d rest (before .next) k e, decimal-trip most n h l) in
         rw f ((refl, (value-size s key d rest (before .next) k e, value-after s key d rest (before .next) k e)), refl)
 
   module _ (width : ℕ) where
-    hex-in : (v : Value) → valueAt s (before .next) key ≡ v → hexIn s width v .good ≡ true → Says s key before (digits 16 width) (hexIn s width v)
+    hex-in : (v : Value) → valueAt s (before .next) key ≡ v → readIn (fixedHex width) s v .good ≡ true → Says s key before (digits 16 width) (readIn (fixedHex width) s v)
     hex-in (Found from to) d g =
         let b = between s from to in
-        let f = picked-field (eqb (length b) width) (parsedField (hexNumber b) to) g in
-        let l : length b ≡ width = eqb-true (length b) width (f .0) in
-        rw (f .0) (parsed-says (digits 16 width) from to (hexNumber b) d (λ (n : ℕ) (h : hexNumber b ≡ Number n). rw (← l) (hex-is n b h .0)) (f .1))
+        parsed-says (digits 16 width) from to (fixedHex width b) d (λ (n : ℕ) (h : fixedHex width b ≡ Number n).
+        let f = picked Bad (hexNumber b) (eqb (length b) width) (Number n) h (number-good n) in
+        rw (← eqb-true (length b) width (f .0)) (hex-is n b (f .1) .0)) g
     hex-in Missing d g = absurd (false≢true g)
 
     pub hex-says : hexAfter s before key width .good ≡ true → (before .good ≡ true) × Says s key before (digits 16 width) (hexAfter s before key width)
     unfolding hexAfter
     hex-says g =
         let v = valueAt s (before .next) key in
-        let f = picked-field (before .good) (hexIn s width v) g in
+        let f = picked-field (before .good) (readIn (fixedHex width) s v) g in
         (f .0, rw (f .0) (hex-in v refl (f .1)))
 
     pub hex-stands : (n : ℕ) (rest : List ℕ) → 0 < width → width ≤ 16 → n < 16 ^ width → wordLength rest ≡ 0 → Stands s before (key ++ (digits 16 width n ++ rest))
@@ -190,7 +190,7 @@ module _ (s key : List ℕ) (before : Field) where
         let w = word-digits 16 d rest (omega arith) (digits-good 16 (omega arith) (omega arith) width n) z in
         let to = before .next + length key + length d in
         let c : eqb (length d) width ≡ true = eq-eqb (length d) width (sym (length-digits 16 width n)) in
-        let f : pick (before .good) (hexIn s width (valueAt s (before .next) key)) badField ≡ record { good = true; value = n; next = to } = rw (st .0, value-is s key d rest (before .next) k e w, value-part s key d rest (before .next) k e, c, hex-fixed-trip width n p q l) in
+        let f : pick (before .good) (readIn (fixedHex width) s (valueAt s (before .next) key)) badField ≡ record { good = true; value = n; next = to } = rw (st .0, value-is s key d rest (before .next) k e w, value-part s key d rest (before .next) k e, c, hex-fixed-trip width n p q l) in
         rw f ((refl, (value-size s key d rest (before .next) k e, value-after s key d rest (before .next) k e)), refl)
 
   -- a key alone

@@ -30,29 +30,29 @@ parsedField Bad next = badField
 abbrev pub between : List ℕ → ℕ → ℕ → List ℕ
 between s from to = take (to - from) (drop from s)
 
-abbrev pub decimalIn : List ℕ → ℕ → Value → Field
-decimalIn s most (Found from to) = parsedField (decimalNumber most (between s from to)) to
-decimalIn s most Missing = badField
+-- a value, as parse reads it
+abbrev pub readIn : (List ℕ → Parsed) → List ℕ → Value → Field
+readIn parse s (Found from to) = parsedField (parse (between s from to)) to
+readIn parse s Missing = badField
+
+-- the value whose key stands just after the field before it
+abbrev pub readAfter : (List ℕ → Parsed) → List ℕ → Field → List ℕ → Field
+readAfter parse s before key = pick (before .good) (readIn parse s (valueAt s (before .next) key)) badField
 
 -- a decimal number that is not above most
 unfoldable pub decimalAfter : List ℕ → Field → List ℕ → ℕ → Field
-decimalAfter s before key most = pick (before .good) (decimalIn s most (valueAt s (before .next) key)) badField
-
-abbrev pub hexIn : List ℕ → ℕ → Value → Field
-hexIn s width (Found from to) = pick (eqb (length (between s from to)) width) (parsedField (hexNumber (between s from to)) to) badField
-hexIn s width Missing = badField
+decimalAfter s before key most = readAfter (decimalNumber most) s before key
 
 -- a number in so many hexadecimal digits
-unfoldable pub hexAfter : List ℕ → Field → List ℕ → ℕ → Field
-hexAfter s before key width = pick (before .good) (hexIn s width (valueAt s (before .next) key)) badField
+abbrev pub fixedHex : ℕ → List ℕ → Parsed
+fixedHex width digits = pick (eqb (length digits) width) (hexNumber digits) Bad
 
-abbrev pub plainHexIn : List ℕ → Value → Field
-plainHexIn s (Found from to) = parsedField (hexPlain (between s from to)) to
-plainHexIn s Missing = badField
+unfoldable pub hexAfter : List ℕ → Field → List ℕ → ℕ → Field
+hexAfter s before key width = readAfter (fixedHex width) s before key
 
 -- a hexadecimal number without leading zeros
 unfoldable pub plainHexAfter : List ℕ → Field → List ℕ → Field
-plainHexAfter s before key = pick (before .good) (plainHexIn s (valueAt s (before .next) key)) badField
+plainHexAfter s before key = readAfter hexPlain s before key
 
 -- the key alone
 unfoldable pub keyAfter : List ℕ → Field → List ℕ → Field
