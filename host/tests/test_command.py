@@ -122,11 +122,11 @@ def check_help(place):
 
 def check_codes(place):
     """Every number of numbers.txt with its sentence, and one alone."""
-    rows = [line.split(" ", 1) for line in (ROOT / "numbers.txt").read_text().splitlines()
+    rows = [line.split(" ", 2) for line in (ROOT / "numbers.txt").read_text().splitlines()
             if line and not line.startswith("#")]
-    shown = ["%s  %s\n" % (number, sentence) for number, sentence in rows]
+    shown = ["%s  %s\n" % (number, sentence) for number, _, sentence in rows]
     expect("codes", place.run("codes"), (0, "".join(shown), ""))
-    for (number, _), line in zip(rows, shown):
+    for (number, _, _), line in zip(rows, shown):
         expect("codes %s" % number, place.run("codes", number), (0, line, ""))
     for number in ("999", "01", "-1", "", "x", "1 2", "*", "#", "7\n8"):
         expect_refusal("codes %r" % number, place.run("codes", number), "no such number")
