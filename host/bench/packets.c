@@ -32,9 +32,22 @@ struct sample {
 
 /* ---- groups of packets */
 
+/* Of each hundred packets; what is left are the rarer kinds. */
 struct group {
     const char *name;
-    void (*choose)(struct source *source, uint8_t *kind, uint32_t *length);
+    uint32_t completions, reads, writes;
+    uint32_t completion_bytes; /* 0: 64, 128, .. 4096 */
+};
+
+static const struct group groups[] = {
+    {"mix of kinds", 60, 20, 12, 0}, /* what a bench sees; the bound is for this one */
+    {"completions, 64 to 4096 bytes", 100, 0, 0, 0},
+    {"completions, 64 bytes", 100, 0, 0, 64},
+    {"completions, 256 bytes", 100, 0, 0, 256},
+    {"completions, 4096 bytes", 100, 0, 0, 4096},
+    {"memory reads", 0, 100, 0, 0},
+    {"memory writes, up to 256 bytes", 0, 0, 100, 0},
+    {"I/O, configuration, messages, Cpl", 0, 0, 0, 0},
 };
 
 static const uint8_t rare_kinds[] = {
@@ -42,23 +55,16 @@ static const uint8_t rare_kinds[] = {
     TOLLPEBBLE_CFGWR1, TOLLPEBBLE_MSG, TOLLPEBBLE_MSGD, TOLLPEBBLE_CPL,
 };
 
-/* 64, 128, .. 4096 bytes. */
-static uint32_t completion_length(struct source *source)
-{
-    return 16u << source_below(source, 7);
-}
-
-/* What a bench sees: mostly completions of reads, then reads and writes, then all the others. */
-static void choose_mix(struct source *source, uint8_t *kind, uint32_t *length)
+static void choose(struct source *source, const struct group *group, uint8_t *kind, uint32_t *length)
 {
     uint32_t of_100 = source_below(source, 100);
-    if (of_100 < 60) {
+    if (of_100 < group->completions) {
         *kind = TOLLPEBBLE_CPLD;
-        *length = completion_length(source);
-    } else if (of_100 < 80) {
+        *length = group->completion_bytes ? group->completion_bytes / 4 : 16u << source_below(source, 7);
+    } else if (of_100 < group->completions + group->reads) {
         *kind = TOLLPEBBLE_MRD;
         *length = 1 + source_below(source, 1024);
-    } else if (of_100 < 92) {
+    } else if (of_100 < group->completions + group->reads + group->writes) {
         *kind = TOLLPEBBLE_MWR;
         *length = 1 + source_below(source, 64);
     } else {
@@ -66,53 +72,6 @@ static void choose_mix(struct source *source, uint8_t *kind, uint32_t *length)
         *length = 1 + source_below(source, 16);
     }
 }
-
-static void choose_completion(struct source *source, uint8_t *kind, uint32_t *length)
-{
-    *kind = TOLLPEBBLE_CPLD;
-    *length = completion_length(source);
-}
-
-static void choose_64(struct source *source, uint8_t *kind, uint32_t *length)
-{
-    (void)source;
-    *kind = TOLLPEBBLE_CPLD;
-    *length = 16;
-}
-
-static void choose_256(struct source *source, uint8_t *kind, uint32_t *length)
-{
-    choose_64(source, kind, length);
-    *length = 64;
-}
-
-static void choose_4096(struct source *source, uint8_t *kind, uint32_t *length)
-{
-    choose_64(source, kind, length);
-    *length = 1024;
-}
-
-static void choose_read(struct source *source, uint8_t *kind, uint32_t *length)
-{
-    *kind = TOLLPEBBLE_MRD;
-    *length = 1 + source_below(source, 1024);
-}
-
-static void choose_rare(struct source *source, uint8_t *kind, uint32_t *length)
-{
-    *kind = rare_kinds[source_below(source, sizeof rare_kinds)];
-    *length = 1 + source_below(source, 16);
-}
-
-static const struct group groups[] = {
-    {"mix of kinds", choose_mix},
-    {"completions, 64 to 4096 bytes", choose_completion},
-    {"completions, 64 bytes", choose_64},
-    {"completions, 256 bytes", choose_256},
-    {"completions, 4096 bytes", choose_4096},
-    {"memory reads", choose_read},
-    {"I/O, configuration, messages, Cpl", choose_rare},
-};
 
 static void fail(const char *what)
 {
@@ -126,7 +85,7 @@ static void make_sample(struct source *source, const struct group *group, struct
     uint32_t length;
     uint8_t payload[4096];
     uint64_t size = 0;
-    group->choose(source, &kind, &length);
+    choose(source, group, &kind, &length);
     random_record(source, kind, length, sample->record);
     sample->payload_length = tollpebble_payload_size(sample->record);
     source_fill(source, payload, sample->payload_length);

@@ -21,6 +21,7 @@ ROOT = Path(__file__).resolve().parent.parent.parent
 sys.path.insert(0, str(ROOT / "host" / "second"))
 
 import checks
+import make_vectors
 import test_second
 import tlp
 from checks import require
@@ -210,12 +211,13 @@ def check_stored():
 def answer(call):
     """The second implementation's answer to a call, in the vectors' form."""
     name, settings, room, record, data = test_second.call_of(call)
+    settings = dict(zip(make_vectors.SETTINGS, settings))
+    vectors = make_vectors.Vectors()
     if name == "r":
-        number, record, payload = tlp.read(*settings, data)
-        return "code=%d" % number + ("" if number else " record=%s payload=%s" % (record.hex(), payload.hex()))
-    number, packet = tlp.write(*settings, record, data, room)
-    out = packet + bytes([0xEE]) * (room - len(packet))
-    return "code=%d size=%d out=%s" % (number, len(packet), out.hex())
+        vectors.read(data, **settings)
+    else:
+        vectors.write(record, data, room, **settings)
+    return vectors.results[-1]
 
 
 def check_at_random():
