@@ -9,7 +9,8 @@ use lib.Arith.{digits-lt, digits-div, mod-mul}
 use lib.Pow.{pow-add}
 use lib.ListN.{length, getD, take, drop}
 use lib.Seq.{getD-append-add, drop-cons}
-use Rattle.bits.specs.Word.{word, bytes}
+use borrow.Author.Tests.{le-leb, lt-leb}
+use Rattle.bits.specs.Word.{word, whole, bytes}
 
 power : (k : ℕ) → 0 < 256 ^ k
 power k = one-le-pow k 256 (zero-lt-suc 255)
@@ -78,3 +79,11 @@ bytes-word-at (suc k) s i h small =
 
 pub bytes-word : (k : ℕ) (s : List ℕ) → k ≤ length s → AllBytes s → bytes k (word k s 0) ≡ take k s
 bytes-word k s h small = bytes-word-at k s 0 (omega arith) small
+
+-- a number all of whose bytes are there, or not
+module _ (k : ℕ) (s : List ℕ) (i : ℕ) where
+  pub whole-there : i + k ≤ length s → (r : ℕ) → r ≡ word k s i → (r ≡ whole k s i) × (i + k ≤ length s → r ≡ word k s i)
+  whole-there h r e = (rw (le-leb (i + k) (length s) h) e, λ _. e)
+
+  pub whole-missing : length s < i + k → (0 ≡ whole k s i) × (i + k ≤ length s → 0 ≡ word k s i)
+  whole-missing h = (rw (lt-leb (i + k) (length s) h), λ l. absurd (omega arith))

@@ -1,8 +1,9 @@
 // Bytes of a slice, and numbers of several bytes, the high byte first. A place past the end reads as 0, so nobody has to look first.
 ghost use mathlib.Core.Path.{_≡_};
-ghost use Prim.Native.Nat.{ℕ, _+_, _*_, _/_, _%_, _^_, _<_};
+ghost use Prim.Native.Nat.{ℕ, _+_, _*_, _/_, _%_, _^_, _≤_, _<_};
 ghost use mathlib.Core.List.{List, [], _∷_};
-ghost use Rattle.bits.specs.Word.{byte, word, bytes};
+ghost use lib.ListN.{length};
+ghost use Rattle.bits.specs.Word.{byte, word, whole, bytes};
 
 pub fn byte_at(s: &[u8], at: u32) -> u8
     ensures { λ r. ⌜ r ≡ byte (now (s .entry)) at ⌝ }
@@ -63,6 +64,31 @@ pub fn word64(s: &[u8], at: u16) -> u64
 {
     let i = at as u32;
     join64(quad(s, i), quad(s, i + 4))
+}
+
+fn two(s: &[u8], i: usize) -> u16
+    requires { ⌜ i + 2 ≤ length (now s) ⌝ }
+    ensures { λ r. ⌜ r ≡ word 2 (now (s .entry)) i ⌝ }
+{
+    join16(s[i], s[i + 1])
+}
+
+fn four(s: &[u8], i: usize) -> u32
+    requires { ⌜ i + 4 ≤ length (now s) ⌝ }
+    ensures { λ r. ⌜ r ≡ word 4 (now (s .entry)) i ⌝ }
+{
+    join32(two(s, i), two(s, i + 2))
+}
+
+// A number all of whose bytes are there, else 0: one look at the length for all eight.
+pub fn whole64(s: &[u8], at: u16) -> u64
+    ensures { λ r. ⌜ (r ≡ whole 8 (now (s .entry)) at) × (at + 8 ≤ length (now (s .entry)) → r ≡ word 8 (now (s .entry)) at) ⌝ }
+{
+    let i = at as usize;
+    if s.len() < i + 8 {
+        return 0;
+    }
+    join64(four(s, i), four(s, i + 4))
 }
 
 pub fn bytes16(x: u16) -> [u8; 2]

@@ -1,3 +1,5 @@
 pub mod RowLaws
 pub mod Returns
 pub mod Bounds
+pub mod FmtLaws
+pub mod FamilyLaws

@@ -1,5 +1,10 @@
 // The kind table: packet types by byte 0, their header sizes, and whether data follows.
 ghost use mathlib.Core.Path.{_≡_};
+ghost use Prim.Native.Nat.{_/_, _%_};
+ghost use mathlib.Core.Bool.{false};
+ghost use lib.Dec.{eqb};
+ghost use Rattle.bits.specs.Choice.{pick};
+ghost use Rattle.bits.specs.Field.{bit};
 ghost use Rattle.tlp.specs.PacketTypes.{typeAt, headerDw, hasData, firstByte, familyOf, isUnlisted, isMemory, isIoOrConfig, isMessage};
 
 pub enum PacketType {
@@ -146,6 +151,57 @@ pub fn family_of(t: PacketType) -> Family
         PacketType::CplD => Family::Completion,
         PacketType::Unlisted => Family::Unlisted,
     }
+}
+
+// The family f where the header has three doublewords.
+fn of_three(b0: u8, f: Family) -> Family
+    ensures { λ r. ⌜ r ≡ pick (eqb (b0 / 32 % 2) 0) f Family.Unlisted ⌝ }
+{
+    if b0 / 32 % 2 == 0 {
+        return f;
+    }
+    Family::Unlisted
+}
+
+fn message_or_none(b0: u8) -> Family
+    ensures { λ r. ⌜ r ≡ pick (eqb (b0 / 8 % 8) 6) Family.Message Family.Unlisted ⌝ }
+{
+    if b0 / 8 % 8 == 6 {
+        return Family::Message;
+    }
+    Family::Unlisted
+}
+
+// The family by byte 0, from Type 4:0 and Fmt: one branch for all types of a family.
+pub fn family_at(b0: u8) -> Family
+    ensures { λ r. ⌜ r ≡ familyOf (typeAt b0) ⌝ }
+{
+    if 128 <= b0 {
+        return Family::Unlisted;
+    }
+    let n = b0 % 32;
+    match n {
+        0 => Family::Memory,
+        2 => of_three(b0, Family::Io),
+        4 => of_three(b0, Family::Config),
+        5 => of_three(b0, Family::Config),
+        10 => of_three(b0, Family::Completion),
+        _ => message_or_none(b0),
+    }
+}
+
+// Fmt bit 0: a header of four doublewords, for a type in the table.
+pub fn is_wide(b0: u8) -> bool
+    ensures { λ r. ⌜ (r ≡ bit b0 5) × (isUnlisted (familyOf (typeAt b0)) ≡ false → r ≡ eqb (headerDw (typeAt b0)) 4) ⌝ }
+{
+    b0 / 32 % 2 == 1
+}
+
+// Fmt bit 1: data follows, for a type in the table.
+pub fn data_follows(b0: u8) -> bool
+    ensures { λ r. ⌜ (r ≡ bit b0 6) × (isUnlisted (familyOf (typeAt b0)) ≡ false → r ≡ hasData (typeAt b0)) ⌝ }
+{
+    b0 / 64 % 2 == 1
 }
 
 // Byte 0 is not in the table.

@@ -1,10 +1,12 @@
 // The C face: reader and writer over numbers and byte slices. docs/RECORD.md lists the record's layout.
+mod lay;
+
+use bits::word::byte_at;
+use tlp::packet_type::family_at;
 use tlp::settings::Settings;
 use tlp::settings::settings_listed;
-use tlp_read::ReadAnswer;
-use tlp_record::RecordAnswer;
-use tlp_record::packet_of;
-use tlp_record::record_of;
+use tlp_read::read_number;
+use tlp_record::packet_in;
 use tlp_write::WriteAnswer;
 ghost use mathlib.Core.Path.{_≡_};
 ghost use mathlib.Core.List.{_++_};
@@ -30,18 +32,15 @@ pub extern "C" fn tollpebble_read(
         mrrs: mrrs,
         rcb: rcb,
     };
-    let answer = tlp_read::read(settings, packet);
-    match answer {
-        ReadAnswer::Refused(r) => r.number,
-        ReadAnswer::Accepted(p) => {
-            if record.len() < 48 {
-                return 12;
-            }
-            let made = record_of(p);
-            bytes::copy(&made, record);
-            0
-        }
+    let n = read_number(settings, packet);
+    if n != 0 {
+        return n;
     }
+    if record.len() < 48 {
+        return 12;
+    }
+    lay::put_record(family_at(byte_at(packet, 0)), packet, record);
+    0
 }
 
 // Writes the packet that record describes, with its payload, over the front of out. Answers 0 with the packet's size in size, or the number of the
@@ -68,18 +67,15 @@ pub extern "C" fn tollpebble_write(
     if !settings_listed(settings) {
         return 11;
     }
-    let described = packet_of(record);
-    match described {
-        RecordAnswer::NoRecord => 6,
-        RecordAnswer::Described(p) => {
-            let answer = tlp_write::write(settings, p, payload, out);
-            match answer {
-                WriteAnswer::Refused(r) => r.number,
-                WriteAnswer::Written(n) => {
-                    *size = n as u64;
-                    0
-                }
-            }
+    if !tlp_fit::fits(record) {
+        return 6;
+    }
+    let answer = tlp_write::write_later(settings, packet_in(record), payload, out);
+    match answer {
+        WriteAnswer::Refused(r) => r.number,
+        WriteAnswer::Written(n) => {
+            *size = n as u64;
+            0
         }
     }
 }

@@ -6,7 +6,7 @@ use lib.Dec.{eqb}
 use lib.ListN.{length, drop}
 use Rattle.bits.specs.Choice.{pick}
 use Rattle.bits.specs.Field.{field, low, bit}
-use Rattle.bits.specs.Word.{byte, word}
+use Rattle.bits.specs.Word.{byte, word, whole}
 use Rattle.tlp.specs.PacketTypes.{familyOf, isIoOrConfig}
 use Rattle.tlp.specs.Sizes.{orMost, lengthAt, digestAt}
 use Rattle.tlp.specs.declared.packet.Implicit.{Implicit}
@@ -83,6 +83,10 @@ completionAt s = record {
 -- "address from byte 8, its low two bits reserved", of k bytes
 abbrev pub addressAt : ℕ → List ℕ → ℕ
 addressAt k s = word k s 8 / 4 * 4
+
+-- a memory request's address, by the form that byte 0 says: Fmt bit 0 is set in the 64-bit one; 0 where that one is not there whole
+abbrev pub formAddress : List ℕ → ℕ
+formAddress s = pick (bit (byte s 0) 5) (whole 8 s 8) (word 4 s 8) / 4 * 4
 
 -- "000 to root, 011 broadcast, 100 local, 101 gathered"; 110 and 111 are refused (row 9)
 unfoldable pub implicitAt : ℕ → Implicit

@@ -1,5 +1,6 @@
 // What the bytes of a packet hold, field by field.
 use bits::word::byte_at;
+use bits::word::whole64;
 use bits::word::word16;
 use bits::word::word32;
 use bits::word::word64;
@@ -11,17 +12,21 @@ use tlp::packet::MessageRequest;
 use tlp::packet::Packet;
 use tlp::packet::Request;
 use tlp::packet::Route;
+use tlp::packet_type::Family;
 use tlp::packet_type::PacketType;
 use tlp::packet_type::family_of;
 use tlp::packet_type::is_io_or_config;
+use tlp::packet_type::is_wide;
 use tlp::size::digest_at;
 use tlp::size::length_at;
 use tlp::size::or_most;
 ghost use mathlib.Core.Path.{_≡_};
 ghost use Prim.Native.Nat.{ℕ, _+_, _-_, _*_, _/_, _%_, _≤_};
 ghost use lib.ListN.{length, drop};
-ghost use Rattle.bits.specs.Word.{word};
-ghost use Rattle.tlp_read.specs.Fields.{trafficClassAt, attributesAt, hintAt, addressTypeAt, poisonedAt, digestWord, requestAt, configAt, messageAt, completionAt, addressAt, implicitAt, routingAt, messageRouteAt, routeAt, kindAt, packetAt};
+ghost use Rattle.bits.specs.Word.{byte, word};
+ghost use Rattle.tlp.specs.PacketTypes.{typeAt, headerDw, familyOf};
+ghost use Rattle.tlp.specs.Packets.{addressOf};
+ghost use Rattle.tlp_read.specs.Fields.{trafficClassAt, attributesAt, hintAt, addressTypeAt, poisonedAt, digestWord, requestAt, configAt, messageAt, completionAt, addressAt, formAddress, implicitAt, routingAt, messageRouteAt, routeAt, kindAt, packetAt};
 
 fn attributes_at(t: PacketType, s: &[u8]) -> u8
     ensures { λ r. ⌜ r ≡ attributesAt t (now (s .entry)) ⌝ }
@@ -62,7 +67,8 @@ fn trailing_word(s: &[u8]) -> u32
     word32(&s[from..], 0)
 }
 
-fn digest_word(s: &[u8]) -> u32
+// The digest, 0 where there is none.
+pub fn digest_word(s: &[u8]) -> u32
     ensures { λ r. ⌜ r ≡ digestWord (now (s .entry)) ⌝ }
 {
     if digest_at(s) {
@@ -135,6 +141,17 @@ fn address64_at(s: &[u8]) -> u64
     ensures { λ r. ⌜ r ≡ addressAt 8 (now (s .entry)) ⌝ }
 {
     word64(s, 8) / 4 * 4
+}
+
+// The address of a memory request whose header is there whole.
+pub fn memory_address(s: &[u8]) -> u64
+    ensures { λ r. ⌜ r ≡ formAddress (now (s .entry)) ⌝ }
+    ensures { λ r. ⌜ (familyOf (typeAt (byte (now (s .entry)) 0)) ≡ Family.Memory → 4 * headerDw (typeAt (byte (now (s .entry)) 0)) ≤ length (now (s .entry)) → r ≡ addressOf (routeAt (typeAt (byte (now (s .entry)) 0)) (now (s .entry)))) ⌝ }
+{
+    if is_wide(byte_at(s, 0)) {
+        return whole64(s, 8) / 4 * 4;
+    }
+    address32_at(s)
 }
 
 fn implicit_at(routing: u8) -> Implicit

@@ -1,69 +1,53 @@
 // Reading packets.
-mod fields;
+pub mod fields;
 mod rows;
 
 use bits::choice::lesser;
+use bits::word::byte_at;
 use tlp::packet::Packet;
 use tlp::packet::access_of;
 use tlp::packet::type_of;
-use tlp::packet_type::PacketType;
 use tlp::packet_type::header_dw;
 use tlp::packet_type::type_at;
 use tlp::refusal::Refusal;
 use tlp::settings::Settings;
 use tlp::settings::settings_listed;
-use tlp::size::PacketSize;
 use tlp::size::data_bytes;
-use tlp::size::packet_size;
 ghost use mathlib.Core.Path.{_≡_};
 ghost use Prim.Native.Nat.{ℕ, _+_, _-_, _*_, _≤_, _<_, min};
 ghost use mathlib.Core.Bool.{not};
 ghost use lib.Dec.{eqb};
 ghost use lib.ListN.{length, take, drop};
-ghost use Rattle.tlp.specs.Rows.{first, row};
-ghost use Rattle.tlp_read.specs.Fields.{packetAt};
-ghost use Rattle.tlp_read.specs.Read.{judgeRows, answerOf, readPacket, payloadOf};
+ghost use Rattle.tlp.specs.Rows.{first};
+ghost use Rattle.tlp_read.specs.Read.{readRows, readPacket, payloadOf};
 
 pub enum ReadAnswer {
     Accepted(Packet),
     Refused(Refusal),
 }
 
-fn refused(number: u32) -> ReadAnswer
-    ensures { λ r. ⌜ r ≡ ReadAnswer.Refused (record { number = number }) ⌝ }
+// The first number that is given for the bytes, with no packet made; 0 where none is.
+pub fn read_number(settings: Settings, bytes: &[u8]) -> u32
+    ensures { λ r. ⌜ r ≡ first (readRows settings (now (bytes .entry))) ⌝ }
 {
-    ReadAnswer::Refused(Refusal { number: number })
-}
-
-// Bytes that have the size that their header calls for.
-fn read_sized(mps: u32, t: PacketType, bytes: &[u8]) -> ReadAnswer
-    ensures { λ r. ⌜ r ≡ answerOf (first (judgeRows mps t (now (bytes .entry)))) (packetAt t (now (bytes .entry))) ⌝ }
-{
-    let p = fields::packet_at(t, bytes);
-    let n = rows::judge_number(mps, t, p, bytes);
-    if n != 0 {
-        return refused(n);
+    if !settings_listed(settings) {
+        return 11;
     }
-    ReadAnswer::Accepted(p)
+    if bytes.len() < 12 {
+        return 1;
+    }
+    rows::later_number(settings.mps, bytes)
 }
 
 // The packet in the bytes, or the first number that is given for them.
 pub fn read(settings: Settings, bytes: &[u8]) -> ReadAnswer
     ensures { λ r. ⌜ r ≡ readPacket settings (now (bytes .entry)) ⌝ }
 {
-    if !settings_listed(settings) {
-        return refused(11);
+    let n = read_number(settings, bytes);
+    if n != 0 {
+        return ReadAnswer::Refused(Refusal { number: n });
     }
-    let size = packet_size(bytes);
-    match size {
-        PacketSize::Refused(r) => ReadAnswer::Refused(r),
-        PacketSize::Bytes(n) => {
-            if bytes.len() != n {
-                return refused(3);
-            }
-            read_sized(settings.mps, type_at(bits::word::byte_at(bytes, 0)), bytes)
-        }
-    }
+    ReadAnswer::Accepted(fields::packet_at(type_at(byte_at(bytes, 0)), bytes))
 }
 
 // The data of a packet, as the part of the bytes that holds it.

@@ -349,7 +349,7 @@ fn route_in(s: &[u8]) -> Route
 }
 
 // The packet that bytes describe, record or not.
-fn packet_in(s: &[u8]) -> Packet
+pub fn packet_in(s: &[u8]) -> Packet
     ensures { λ r. ⌜ r ≡ packetIn (now (s .entry)) ⌝ }
 {
     Packet {

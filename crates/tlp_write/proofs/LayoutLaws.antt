@@ -11,7 +11,6 @@ use lib.Seq.{drop-cons, drop-length, take-take, take-append-seam}
 use borrow.Author.Tests.{lt-ltb, le-ltb}
 use Rattle.bits.specs.Choice.{pick, flag}
 use Rattle.bits.specs.Word.{bytes}
-use Rattle.byte_enables.specs.declared.Access.{Access}
 use Rattle.tlp.specs.PacketTypes.{firstByte, headerDw}
 use Rattle.tlp.specs.Packets.{addressOf, memoryForm, typeIn, typeOf, accessOf, idOf}
 use Rattle.tlp.proofs.Bounds.{header-le}
@@ -94,16 +93,16 @@ pub completion-bytes-law : (r : Route) (c : CompletionHeader) (i f : ℕ) (w q :
     ≡ padded 12 (completionBytes (idOf r) c)
 completion-bytes-law r c i f w q e g h k = rw (h, k, e, g)
 
-pub front-law : (p : Packet) (t : PacketType) (a : Access) (b r f g : ℕ) → t ≡ typeOf p → a ≡ accessOf p → b ≡ firstByte t
+pub front-law : (p : Packet) (t : PacketType) (n b r f g : ℕ) → t ≡ typeOf p → n ≡ accessOf p .length → b ≡ firstByte t
     → r ≡ routingIn (p .route) (p .kind) → f ≡ flag (p .«has_digest») → g ≡ flag (p .poisoned)
     → ((b + r)
     ∷ (p .«traffic_class» % 8 * 16 + p .attributes / 4 % 2 * 4)
-    ∷ (f * 128 + g * 64 + p .attributes % 4 * 16 + a .length / 256 % 4)
-    ∷ (a .length % 256)
+    ∷ (f * 128 + g * 64 + p .attributes % 4 * 16 + n / 256 % 4)
+    ∷ (n % 256)
     ∷ [])
     ≡ frontBytes p
 unfolding frontBytes
-front-law p t a b r f g e h k l m n = rw (← e, ← h, ← k, ← l, ← m, ← n)
+front-law p t n b r f g e h k l m q = rw (← e, ← h, ← k, ← l, ← m, ← q)
 
 pub header-array-law : (p : Packet) (f w : List ℕ) → f ≡ frontBytes p → w ≡ padded 12 (ownBytes (p .route) (p .kind)) → length f ≡ 4 → length w ≡ 12
     → elems 4 0 f ++ elems 12 0 w ≡ frontBytes p ++ padded 12 (ownBytes (p .route) (p .kind))

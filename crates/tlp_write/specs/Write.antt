@@ -26,8 +26,11 @@ laterRows c p n room =
     ∷ []))
 
 -- "It refuses 11 first; then 6 .."
+abbrev pub earlyRows : Settings → Packet → List Row
+earlyRows c p = row 11 (not (settingsListed c)) ∷ givenRows p
+
 abbrev pub writeRows : Settings → Packet → ℕ → ℕ → List Row
-writeRows c p n room = row 11 (not (settingsListed c)) ∷ (givenRows p ++ laterRows c p n room)
+writeRows c p n room = earlyRows c p ++ laterRows c p n room
 
 abbrev pub writeAnswer : ℕ → ℕ → WriteAnswer
 writeAnswer zero size = Written size
@@ -36,6 +39,10 @@ writeAnswer (suc n) size = Refused (record { number = suc n })
 -- what writing answers: the number of the first row that holds, else the size written
 unfoldable pub writePacket : Settings → Packet → ℕ → ℕ → WriteAnswer
 writePacket c p n room = writeAnswer (first (writeRows c p n room)) (sizeOf p)
+
+-- the same where no early row holds
+unfoldable pub laterPacket : Settings → Packet → ℕ → ℕ → WriteAnswer
+laterPacket c p n room = writeAnswer (first (laterRows c p n room)) (sizeOf p)
 
 -- the number of an answer; 0 for written
 abbrev pub numberOf : WriteAnswer → ℕ
@@ -53,3 +60,6 @@ outAfter (Refused r) xs out = out
 -- the output afterwards: "on success output beyond the packet is unchanged"; after a refusal all of it is
 unfoldable pub writeOut : Settings → Packet → List ℕ → List ℕ → List ℕ
 writeOut c p payload out = outAfter (writePacket c p (length payload) (length out)) (bytesOf p payload) out
+
+unfoldable pub laterOut : Settings → Packet → List ℕ → List ℕ → List ℕ
+laterOut c p payload out = outAfter (laterPacket c p (length payload) (length out)) (bytesOf p payload) out

@@ -12,17 +12,16 @@ use tlp::packet::MessageRequest;
 use tlp::packet::Packet;
 use tlp::packet::Request;
 use tlp::packet::Route;
-use tlp::packet::access_of;
 use tlp::packet::address_of;
 use tlp::packet::id_of;
-use tlp::packet::type_of;
+use tlp::packet_type::PacketType;
 use tlp::packet_type::first_byte;
 use tlp::packet_type::header_dw;
 ghost use mathlib.Core.Path.{_≡_};
 ghost use mathlib.Core.List.{_++_};
 ghost use Prim.Native.Nat.{_+_, _≤_};
 ghost use lib.ListN.{length};
-ghost use Rattle.tlp.specs.Packets.{addressOf, idOf};
+ghost use Rattle.tlp.specs.Packets.{addressOf, idOf, typeOf, accessOf};
 ghost use Rattle.bits.specs.Put.{put};
 ghost use Rattle.tlp_write.specs.Layout.{routing, routingIn, requestBytes, memoryAddress, configBytes, messageBytes, completionBytes, ownBytes, frontBytes, headerOf, digestOf};
 ghost use Rattle.tlp_write.specs.Padded.{padded};
@@ -211,14 +210,14 @@ fn routing_in(r: Route, k: Kind) -> u8
 }
 
 // Bytes 0 to 3.
-fn front_bytes(p: Packet) -> [u8; 4]
+fn front_bytes(p: Packet, t: PacketType, n: u32) -> [u8; 4]
+    requires { ⌜ t ≡ typeOf p ⌝ }
+    requires { ⌜ n ≡ accessOf p .length ⌝ }
     ensures { λ r. ⌜ r ≡ frontBytes p ⌝ }
 {
     let route = p.route;
     let kind = p.kind;
-    let a = access_of(p);
-    let n = a.length;
-    let b0 = first_byte(type_of(p)) + routing_in(route, kind);
+    let b0 = first_byte(t) + routing_in(route, kind);
     let high = (n / 256 % 4) as u8;
     let flags = flag_of(p.has_digest) * 128 + flag_of(p.poisoned) * 64;
     [
@@ -230,10 +229,12 @@ fn front_bytes(p: Packet) -> [u8; 4]
 }
 
 // The header's bytes; one of three doublewords has the first twelve.
-fn header_array(p: Packet) -> [u8; 16]
+fn header_array(p: Packet, t: PacketType, n: u32) -> [u8; 16]
+    requires { ⌜ t ≡ typeOf p ⌝ }
+    requires { ⌜ n ≡ accessOf p .length ⌝ }
     ensures { λ r. ⌜ r ≡ frontBytes p ++ padded 12 (ownBytes (p .route) (p .kind)) ⌝ }
 {
-    let f = front_bytes(p);
+    let f = front_bytes(p, t, n);
     let route = p.route;
     let kind = p.kind;
     let w = own_bytes(route, kind);
@@ -258,12 +259,14 @@ fn header_array(p: Packet) -> [u8; 16]
 }
 
 // Lays the header over the front of the output, and returns its size.
-pub(crate) fn put_header(p: Packet, out: &mut [u8]) -> usize
+pub(crate) fn put_header(p: Packet, t: PacketType, dw: u32, out: &mut [u8]) -> usize
+    requires { ⌜ t ≡ typeOf p ⌝ }
+    requires { ⌜ dw ≡ accessOf p .length ⌝ }
     requires { ⌜ length (headerOf p) ≤ length (now out) ⌝ }
     ensures { λ n. ⌜ (n ≡ length (headerOf p)) × (now (out .exit) ≡ put 0 (headerOf p) (now (out .entry))) ⌝ }
 {
-    let h = header_array(p);
-    let n = 4 * header_dw(type_of(p));
+    let h = header_array(p, t, dw);
+    let n = 4 * header_dw(t);
     put_at(0, &h[..n], out)
 }
 

@@ -1,4 +1,4 @@
-use Rattle.tlp_c.proofs.CallLaws.{unlisted-number, unlisted-out, unlisted-size, no-record-number, no-record-out, no-record-size, written-out, not-written-number, not-written-size, written-number, written-size}
+use Rattle.tlp_c.proofs.CallLaws.{unlisted-number, unlisted-out, unlisted-size, unfit-number, unfit-out, unfit-size, written-out, not-written-number, not-written-size, written-number, written-size}
 use borrow.Author.Needs.{needs}
 use Rattle.tlp_c.proofs.tollpebble_write.Statement.{statement}
 use Rattle.tlp_c.proofs.tollpebble_write.Tie as tie
@@ -9,26 +9,23 @@ settings-listed-requires c κs = search needs
 returns : tie.Need-returns
 returns c = (search unlisted-number, (search unlisted-out, search unlisted-size))
 
-packet-of-requires : tie.Need-packet-of-requires
-packet-of-requires c κs = search needs
+fits-requires : tie.Need-fits-requires
+fits-requires c κs = search needs
 
-enum-told : tie.Need-enum-told
-enum-told c = search needs
+returns-2 : tie.Need-returns-2
+returns-2 c = (search unfit-number, (search unfit-out, search unfit-size))
 
-enum-known-described : tie.Need-enum-known-described
-enum-known-described c = search needs
+packet-in-requires : tie.Need-packet-in-requires
+packet-in-requires c κs = search needs
 
-write-requires : tie.Need-write-requires
-write-requires c κs = search needs
+write-later-requires : tie.Need-write-later-requires
+write-later-requires c κs = search needs
 
 enum-known-answer : tie.Need-enum-known-answer
 enum-known-answer c = search needs
 
 enum-known-answer-2 : tie.Need-enum-known-answer-2
 enum-known-answer-2 c = search needs
-
-returns-2 : tie.Need-returns-2
-returns-2 c = (search no-record-number, (search no-record-out, search no-record-size))
 
 same-length : tie.Need-same-length
 same-length c = search needs
@@ -48,13 +45,12 @@ tollpebble-write-spec =
     (tie.spec
     settings-listed-requires
     returns
-    packet-of-requires
-    enum-told
-    enum-known-described
-    write-requires
+    fits-requires
+    returns-2
+    packet-in-requires
+    write-later-requires
     enum-known-answer
     enum-known-answer-2
-    returns-2
     same-length
     returns-3
     same-length-2

@@ -1,17 +1,8 @@
 use Rattle.tlp_write.proofs.WriteLaws.{later-law, content-none}
-use Rattle.tlp.proofs.RowLaws.{here-ne-call, next-ne-call, some-of, here-lt-call, next-lt-call, none}
+use Rattle.tlp.proofs.RowLaws.{here-ne-call, next-ne-call, here-lt-call, next-lt-call, some-of, none}
 use borrow.Author.Needs.{needs}
 use Rattle.tlp_write.proofs.later_number.Statement.{statement}
 use Rattle.tlp_write.proofs.later_number.Tie as tie
-
-type-of-requires : tie.Need-type-of-requires
-type-of-requires c κs = search needs
-
-access-of-requires : tie.Need-access-of-requires
-access-of-requires c κs = search needs
-
-data-bytes-requires : tie.Need-data-bytes-requires
-data-bytes-requires c κs = search needs
 
 returns : tie.Need-returns
 returns c = search (later-law, here-ne-call)
@@ -22,9 +13,6 @@ content-number-requires c κs = search needs
 returns-2 : tie.Need-returns-2
 returns-2 c = search (later-law, next-ne-call, some-of)
 
-size-of-requires : tie.Need-size-of-requires
-size-of-requires c κs = search needs
-
 returns-3 : tie.Need-returns-3
 returns-3 c = search (later-law, next-ne-call, content-none, here-lt-call)
 
@@ -33,14 +21,4 @@ returns-4 c = search (later-law, next-ne-call, content-none, next-lt-call, none)
 
 pub later-number-spec : {M : Type 1} → statement M
 later-number-spec =
-    tie.close
-    (tie.spec
-    type-of-requires
-    access-of-requires
-    data-bytes-requires
-    returns
-    content-number-requires
-    returns-2
-    size-of-requires
-    returns-3
-    returns-4)
+    tie.close (tie.spec returns content-number-requires returns-2 returns-3 returns-4)

@@ -1,49 +1,77 @@
-use Rattle.tlp_read.proofs.ReadReturns.{judge-laws}
+use Rattle.tlp_read.proofs.ReadReturns.{family-is, family-io, family-config, family-none}
 use borrow.Author.Needs.{needs}
 use Rattle.tlp_read.proofs.rows.judge_number.Statement.{statement}
 use Rattle.tlp_read.proofs.rows.judge_number.Tie as tie
 
-hints-bad-requires : tie.Need-hints-bad-requires
-hints-bad-requires c κs = search needs
+enum-told : tie.Need-enum-told
+enum-told c = search needs
+
+memory-number-requires : tie.Need-memory-number-requires
+memory-number-requires c κs = search (family-is, needs)
+
+enum-told-2 : tie.Need-enum-told-2
+enum-told-2 c = search needs
+
+register-number-requires : tie.Need-register-number-requires
+register-number-requires c κs = search (family-io, needs)
+
+enum-told-3 : tie.Need-enum-told-3
+enum-told-3 c = search needs
+
+register-number-requires-2 : tie.Need-register-number-requires-2
+register-number-requires-2 c κs = search (family-config, needs)
+
+enum-told-4 : tie.Need-enum-told-4
+enum-told-4 c = search needs
+
+message-number-requires : tie.Need-message-number-requires
+message-number-requires c κs = search (family-is, needs)
+
+enum-told-5 : tie.Need-enum-told-5
+enum-told-5 c = search needs
+
+completion-number-requires : tie.Need-completion-number-requires
+completion-number-requires c κs = search (family-is, needs)
+
+enum-told-6 : tie.Need-enum-told-6
+enum-told-6 c = search needs
 
 returns : tie.Need-returns
-returns c = search judge-laws
-
-address-type-at-requires : tie.Need-address-type-at-requires
-address-type-at-requires c κs = search needs
-
-content-number-requires : tie.Need-content-number-requires
-content-number-requires c κs = search needs
+returns c = search needs
 
 returns-2 : tie.Need-returns-2
-returns-2 c = search judge-laws
-
-routing-bad-requires : tie.Need-routing-bad-requires
-routing-bad-requires c κs = search needs
+returns-2 c = search needs
 
 returns-3 : tie.Need-returns-3
-returns-3 c = search judge-laws
-
-form-bad-requires : tie.Need-form-bad-requires
-form-bad-requires c κs = search needs
+returns-3 c = search needs
 
 returns-4 : tie.Need-returns-4
-returns-4 c = search judge-laws
+returns-4 c = search needs
 
 returns-5 : tie.Need-returns-5
-returns-5 c = search judge-laws
+returns-5 c = search needs
+
+returns-6 : tie.Need-returns-6
+returns-6 c = search family-none
 
 pub judge-number-spec : {M : Type 1} → statement M
 judge-number-spec =
     tie.close
     (tie.spec
-    hints-bad-requires
+    enum-told
+    memory-number-requires
+    enum-told-2
+    register-number-requires
+    enum-told-3
+    register-number-requires-2
+    enum-told-4
+    message-number-requires
+    enum-told-5
+    completion-number-requires
+    enum-told-6
     returns
-    address-type-at-requires
-    content-number-requires
     returns-2
-    routing-bad-requires
     returns-3
-    form-bad-requires
     returns-4
-    returns-5)
+    returns-5
+    returns-6)

@@ -1,6 +1,6 @@
-use Rattle.tlp_write.proofs.LayoutLaws.{header-fits, header-part, header-room, header-end, header-put}
 use native.Mathlib.Omega.{arith}
 use Rattle.tlp.proofs.Bounds.{header-le}
+use Rattle.tlp_write.proofs.LayoutLaws.{header-fits, header-part, header-room, header-end, header-put}
 use borrow.Author.Needs.{needs}
 use Rattle.tlp_write.proofs.layout.put_header.Statement.{statement}
 use Rattle.tlp_write.proofs.layout.put_header.Tie as tie
@@ -8,14 +8,11 @@ use Rattle.tlp_write.proofs.layout.put_header.Tie as tie
 header-array-requires : tie.Need-header-array-requires
 header-array-requires c κs = search needs
 
-type-of-requires : tie.Need-type-of-requires
-type-of-requires c κs = search needs
-
 header-dw-requires : tie.Need-header-dw-requires
 header-dw-requires c κs = search needs
 
 mul-n : tie.Need-mul-n
-mul-n c = omega (arith, header-le (c .before .type-of .result))
+mul-n c = omega (arith, header-le (c .before .before .before .args .t))
 
 array-share-prefix-h : tie.Need-array-share-prefix-h
 array-share-prefix-h c = search header-fits
@@ -37,7 +34,6 @@ put-header-spec =
     tie.close
     (tie.spec
     header-array-requires
-    type-of-requires
     header-dw-requires
     mul-n
     array-share-prefix-h

@@ -1,0 +1,18 @@
+use Rattle.tlp_fit.proofs.Chains.{chains}
+use Rattle.tlp_fit.proofs.shared.common_bad.Statement.{statement}
+use Rattle.tlp_fit.proofs.shared.common_bad.Tie as tie
+
+returns : tie.Need-returns
+returns c = search chains depth 9
+
+returns-2 : tie.Need-returns-2
+returns-2 c = search chains depth 9
+
+returns-3 : tie.Need-returns-3
+returns-3 c = search chains depth 9
+
+returns-4 : tie.Need-returns-4
+returns-4 c = search chains depth 9
+
+pub common-bad-spec : {M : Type 1} → statement M
+common-bad-spec = tie.close (tie.spec returns returns-2 returns-3 returns-4)
