@@ -2,7 +2,7 @@
 use mathlib.Core.Path.{_≡_, refl, sym, ap, _∙_}
 use mathlib.Core.List.{List, [], _∷_, _++_}
 use Prim.Native.Nat.{ℕ, zero, suc, _+_, _*_, _/_, _%_, _^_, _≤_, _<_, suc-le-suc}
-use native.Mathlib.Nat.{add-assoc, zero-add, add-zero, zero-mul, add-mul, mul-assoc, mul-comm, mod-lt, mod-eq-of-lt, mod-one, zero-lt-suc, one-le-pow, pow-suc, mul-add-div-right, mul-add-mod-self-right, suc-add, add-suc}
+use native.Mathlib.Nat.{add-assoc, zero-add, add-zero, zero-mul, add-mul, mul-assoc, mul-comm, mod-lt, mod-eq-of-lt, mod-one, zero-lt-suc, one-le-pow, pow-suc, mul-add-div-right, mul-add-mod-self-right, suc-add, add-suc, div-add-mod', div-div-eq-div-mul}
 use native.Mathlib.Numerals.{add-one, one-add}
 use native.Mathlib.Omega.{arith}
 use lib.Arith.{digits-lt, digits-div, mod-mul}
@@ -44,6 +44,18 @@ bytes-above (suc k) j h x =
     let e : h * 256 ^ (suc k + j) + x ≡ h * 256 ^ j * 256 * 256 ^ k + x = simp (pow-add, pow-suc, mul-assoc, mul-comm) in
     let f : (h * 256 ^ (suc k + j) + x) / 256 ^ k % 256 ≡ x / 256 ^ k % 256 = rw (e, mul-add-div-right (power k)) (mul-add-mod-self-right (h * 256 ^ j) 256 _) in
     rw (f, suc-add, ← add-suc) (ap (λ (l : List ℕ). x / 256 ^ k % 256 ∷ l) (bytes-above k (suc j) h x))
+
+pub bytes-low : (k x : ℕ) → bytes k (x % 256 ^ k) ≡ bytes k x
+bytes-low k x =
+    let e : x / 256 ^ k * 256 ^ (k + 0) + x % 256 ^ k ≡ x = rw (add-zero k) (div-add-mod' x (256 ^ k)) in
+    sym (bytes-above k 0 (x / 256 ^ k) (x % 256 ^ k)) ∙ ap (λ (n : ℕ). bytes k n) e
+
+-- the bytes of two numbers, one above the other
+pub bytes-join : (j k a b : ℕ) → b < 256 ^ k → bytes (j + k) (a * 256 ^ k + b) ≡ bytes j a ++ bytes k b
+bytes-join zero k a b h = rw zero-add (rw add-zero at (bytes-above k 0 a b))
+bytes-join (suc j) k a b h =
+    let e : (a * 256 ^ k + b) / 256 ^ (j + k) ≡ a / 256 ^ j = rw (pow-add, mul-comm (256 ^ j) (256 ^ k), ← div-div-eq-div-mul, digits-div a h) in
+    rw (suc-add, e) (ap (λ (l : List ℕ). a / 256 ^ j % 256 ∷ l) (bytes-join j k a b h))
 
 -- ---- there and back
 

@@ -1,4 +1,5 @@
 -- The types of a family: what holds of each of them holds of any type of the family.
+use Prim.Native.Nat.{ℕ}
 use mathlib.Core.Path.{_≡_, refl, sym, ap, _∙_}
 use mathlib.Core.Bool.{Bool, true, false, true≢false}
 use lib.Dec.{eqb}
@@ -8,10 +9,17 @@ use Rattle.tlp.specs.declared.packet_type.Family.{Family}
 use Rattle.tlp.specs.declared.packet_type.Family.the-variants.{Memory, Io, Config, Message, Completion, Unlisted as NoFamily}
 use Rattle.tlp.specs.declared.packet_type.PacketType.{PacketType}
 use Rattle.tlp.specs.declared.packet_type.PacketType.the-variants.{MRd32, MRd64, MWr32, MWr64, IORd, IOWr, CfgRd0, CfgWr0, CfgRd1, CfgWr1, Msg, MsgD, Cpl, CplD, Unlisted}
-use Rattle.tlp.proofs.FmtLaws.{place}
+
+abbrev pub place : Family → ℕ
+place Memory = 0
+place Io = 1
+place Config = 2
+place Message = 3
+place Completion = 4
+place NoFamily = 5
 
 -- two families that are not the same
-other : {A : Type 0} (f g : Family) → eqb (place f) (place g) ≡ false → f ≡ g → A
+pub other : {A : Type 0} (f g : Family) → eqb (place f) (place g) ≡ false → f ≡ g → A
 other f g e h = absurd (true≢false (sym (eq-eqb (place f) (place g) (ap place h)) ∙ e))
 
 -- by all types of one family g, the rest by g's place

@@ -1,16 +1,16 @@
 -- What the bits of byte 0 say: Fmt the header's size and whether data follows, for every type in the kind table, and Fmt and Type the family.
-use Prim.Native.Nat.{ℕ, zero, suc, _+_, _-_, _/_, _%_, _≤_, _<_}
+use Prim.Native.Nat.{ℕ, zero, suc, _+_, _-_, _/_, _%_, _^_, _≤_, _<_}
 use native.Mathlib.Nat.{eq-zero-or-pos}
 use native.Mathlib.Omega.{arith}
 use mathlib.Core.Path.{_≡_, refl, sym, ap, _∙_}
 use mathlib.Core.Logic.{⊎-elim}
-use mathlib.Core.Bool.{Bool, true, false, _&&_, and-eq-true-iff, true≢false}
+use mathlib.Core.Bool.{Bool, true, false, not, _&&_, and-eq-true-iff, true≢false}
 use lib.Dec.{eqb, leb}
-use borrow.Author.Tests.{eqb-true, leb-true, le-leb, lt-leb, eq-eqb, ne-eqb}
+use borrow.Author.Tests.{eqb-true, leb-true, le-leb, lt-leb, ne-eqb}
 use Rattle.bits.specs.Choice.{pick}
-use Rattle.tlp.specs.PacketTypes.{typeAt, headerDw, hasData, familyOf, isUnlisted}
+use Rattle.tlp.specs.PacketTypes.{typeAt, headerDw, hasData, familyOf, familyByType, isUnlisted}
 use Rattle.tlp.specs.declared.packet_type.Family.{Family}
-use Rattle.tlp.specs.declared.packet_type.Family.the-variants.{Memory, Io, Config, Message, Completion, Unlisted as NoFamily}
+use Rattle.tlp.specs.declared.packet_type.Family.the-variants.{Message}
 use Rattle.tlp.specs.declared.packet_type.PacketType.{PacketType}
 use Rattle.tlp.specs.declared.packet_type.PacketType.the-variants.{MRd32, MRd64, MWr32, MWr64, IORd, IOWr, CfgRd0, CfgWr0, CfgRd1, CfgWr1, Msg, MsgD, Cpl, CplD, Unlisted}
 
@@ -61,79 +61,72 @@ module _ (b : ℕ) where
   pub data-law : isUnlisted (familyOf (typeAt b)) ≡ false → eqb (b / 64 % 2) 1 ≡ hasData (typeAt b)
   data-law h = sym (fmt-law h .1)
 
--- the family from Type n of byte b, where no bit 7 is set
-abbrev ofThree : ℕ → Family → Family
-ofThree b f = pick (eqb (b / 32 % 2) 0) f NoFamily
-
-abbrev familyBy : ℕ → ℕ → Family
-familyBy n b =
-    pick (eqb n 0) Memory
-    (pick (eqb n 2) (ofThree b Io)
-    (pick (eqb n 4) (ofThree b Config)
-    (pick (eqb n 5) (ofThree b Config)
-    (pick (eqb n 10) (ofThree b Completion)
-    (pick (eqb (b / 8 % 8) 6) Message NoFamily)))))
-
-abbrev familyByBits : ℕ → Family
-familyByBits b = pick (leb 128 b) NoFamily (familyBy (b % 32) b)
-
-abbrev pub place : Family → ℕ
-place Memory = 0
-place Io = 1
-place Config = 2
-place Message = 3
-place Completion = 4
-place NoFamily = 5
-
-place-one : (f g : Family) → place f ≡ place g → f ≡ g
-place-one f g e = sym (back f) ∙ ap at e ∙ back g
-  where
-    at : ℕ → Family
-    at n = pick (eqb n 0) Memory (pick (eqb n 1) Io (pick (eqb n 2) Config (pick (eqb n 3) Message (pick (eqb n 4) Completion NoFamily))))
-
-    back : (f : Family) → at (place f) ≡ f
-    back Memory = refl
-    back Io = refl
-    back Config = refl
-    back Message = refl
-    back Completion = refl
-    back NoFamily = refl
-
-abbrev allBelow : ℕ → (ℕ → Bool) → Bool
+-- a test of every value below a bound, computed once
+abbrev pub allBelow : ℕ → (ℕ → Bool) → Bool
 allBelow zero f = true
 allBelow (suc n) f = f n && allBelow n f
 
-below : (n : ℕ) (f : ℕ → Bool) → allBelow n f ≡ true → (b : ℕ) → b < n → f b ≡ true
+pub below : (n : ℕ) (f : ℕ → Bool) → allBelow n f ≡ true → (b : ℕ) → b < n → f b ≡ true
 below zero f h b l = absurd (omega arith)
 below (suc n) f h b l =
     let x = and-eq-true-iff (f n) (allBelow n f) .0 h in
     ⊎-elim (λ k. let e : b ≡ n = omega arith in rw e (x .0)) (λ k. below n f (x .1) b (omega arith)) (eq-zero-or-pos (n - b))
 
-bits-checked : allBelow 256 (λ b. eqb (place (familyByBits b)) (place (familyOf (typeAt b)))) ≡ true
+-- byte 0 in the table, by a bit for each value of bits 5:0
+abbrev pub agree : Bool → Bool → Bool
+agree true c = c
+agree false c = not c
+
+pub agree-same : (b c : Bool) → agree b c ≡ true → b ≡ c
+agree-same true true h = refl
+agree-same true false h = sym h
+agree-same false true h = h
+agree-same false false h = refl
+
+abbrev listedBit : ℕ → Bool
+listedBit b = eqb (0x00FF000100000435 / 2 ^ (b % 64) % 2) 1
+
+abbrev listedByBits : ℕ → Bool
+listedByBits b = pick (leb 128 b) false (listedBit b)
+
+listed-checked : allBelow 256 (λ b. agree (listedByBits b) (not (isUnlisted (familyOf (typeAt b))))) ≡ true
 unfolding typeAt
-bits-checked = refl
+listed-checked = refl
 
 module _ (b : ℕ) (l : b < 256) where
-  by-bits : familyByBits b ≡ familyOf (typeAt b)
-  by-bits = place-one _ _ (eqb-true _ _ (below 256 (λ b. eqb (place (familyByBits b)) (place (familyOf (typeAt b)))) bits-checked b l))
+  listed-bits : listedByBits b ≡ not (isUnlisted (familyOf (typeAt b)))
+  listed-bits = agree-same _ _ (below 256 (λ b. agree (listedByBits b) (not (isUnlisted (familyOf (typeAt b))))) listed-checked b l)
 
-  pub family-high : 128 ≤ b → NoFamily ≡ familyOf (typeAt b)
-  family-high h = rw (le-leb 128 b h) at by-bits
+  pub listed-high : 128 ≤ b → false ≡ not (isUnlisted (familyOf (typeAt b)))
+  listed-high h = rw (le-leb 128 b h) at listed-bits
 
-  module _ (h : b < 128) (v : Family) where
-    pub family-key : (k : ℕ) → b % 32 ≡ k → v ≡ familyBy k b → v ≡ familyOf (typeAt b)
-    family-key k q r = r ∙ rw (q, lt-leb 128 b h) at by-bits
+  pub listed-low : b < 128 → eqb (0x00FF000100000435 / 2 ^ (b % 64) % 2) 1 ≡ not (isUnlisted (familyOf (typeAt b)))
+  listed-low h = rw (lt-leb 128 b h) at listed-bits
 
-    pub family-rest : (b % 32 ≡ 0 → ⊥) → (b % 32 ≡ 2 → ⊥) → (b % 32 ≡ 4 → ⊥) → (b % 32 ≡ 5 → ⊥) → (b % 32 ≡ 10 → ⊥) → v ≡ pick (eqb (b / 8 % 8) 6) Message NoFamily → v ≡ familyOf (typeAt b)
-    family-rest h0 h2 h4 h5 h10 r = r ∙ rw (lt-leb 128 b h, ne-eqb (b % 32) 0 h0, ne-eqb (b % 32) 2 h2, ne-eqb (b % 32) 4 h4, ne-eqb (b % 32) 5 h5, ne-eqb (b % 32) 10 h10) at by-bits
+pub ruleset listed-laws = (listed-high, listed-low)
 
-pub ruleset family-laws = (family-high, family-key, family-rest)
+-- the family by Type alone
+abbrev TypeSays : ℕ → PacketType → Type 0
+TypeSays b t = isUnlisted (familyOf t) ≡ false → familyByType (b % 32) ≡ familyOf t
 
--- a choice by a bit
-pub picked-yes : (f g : Family) (n k : ℕ) → n ≡ k → f ≡ pick (eqb n k) f g
-picked-yes f g n k e = rw (eq-eqb n k e)
+module _ (b : ℕ) where
+  by-type-message : 16 ≤ b % 32 → familyByType (b % 32) ≡ Message
+  by-type-message h =
+      rw (ne-eqb (b % 32) 0 (λ e. omega (arith, h, e)), ne-eqb (b % 32) 2 (λ e. omega (arith, h, e)), ne-eqb (b % 32) 4 (λ e. omega (arith, h, e)), ne-eqb (b % 32) 5 (λ e. omega (arith, h, e)), ne-eqb (b % 32) 10 (λ e. omega (arith, h, e)))
 
-pub picked-no : (f g : Family) (n k : ℕ) → (n ≡ k → ⊥) → g ≡ pick (eqb n k) f g
-picked-no f g n k h = rw (ne-eqb n k h)
+  by-type : TypeSays b (typeAt b)
+  by-type =
+      each-type TypeSays b
+      (λ _. refl) (λ _. refl) (λ _. refl) (λ _. refl) (λ _. refl) (λ _. refl) (λ _. refl) (λ _. refl) (λ _. refl) (λ _. refl)
+      (λ p q _. by-type-message (omega arith)) (λ p q _. by-type-message (omega arith))
+      (λ _. refl) (λ _. refl) (λ h. absurd (true≢false h))
 
-pub ruleset picked-laws = (picked-yes, picked-no)
+  module _ (v : Family) where
+    pub type-key : (k : ℕ) → b % 32 ≡ k → v ≡ familyByType k → v ≡ familyByType (b % 32)
+    type-key k q r = rw q r
+
+    pub type-rest : (b % 32 ≡ 0 → ⊥) → (b % 32 ≡ 2 → ⊥) → (b % 32 ≡ 4 → ⊥) → (b % 32 ≡ 5 → ⊥) → (b % 32 ≡ 10 → ⊥) → v ≡ Message → v ≡ familyByType (b % 32)
+    type-rest h0 h2 h4 h5 h10 r = rw (ne-eqb (b % 32) 0 h0, ne-eqb (b % 32) 2 h2, ne-eqb (b % 32) 4 h4, ne-eqb (b % 32) 5 h5, ne-eqb (b % 32) 10 h10) r
+
+    pub type-listed : v ≡ familyByType (b % 32) → isUnlisted (familyOf (typeAt b)) ≡ false → v ≡ familyOf (typeAt b)
+    type-listed e h = e ∙ by-type h

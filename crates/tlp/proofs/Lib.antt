@@ -3,3 +3,4 @@ pub mod Returns
 pub mod Bounds
 pub mod FmtLaws
 pub mod FamilyLaws
+pub mod SettingLaws

@@ -1,7 +1,7 @@
 -- One law for each function that goes by cases, in the words of its returns.
 use Prim.Native.Nat.{ℕ, zero, suc, _+_, _*_, _/_, _%_, _^_, _≤_}
 use native.Mathlib.Omega.{arith}
-use mathlib.Core.List.{List}
+use mathlib.Core.List.{List, [], _∷_}
 use lib.ListN.{length}
 use lib.Dec.{eqb, leb}
 use borrow.Author.Tests.{ne-eqb, le-leb, lt-leb, leb-true}
@@ -10,16 +10,17 @@ use Rattle.bits.specs.Word.{byte}
 use mathlib.Core.Path.{_≡_, refl, sym, ap, _∙_}
 use mathlib.Core.Bool.{Bool, true, false, not, _&&_, and-false}
 use Rattle.byte_enables.specs.declared.Access.{Access}
+use Rattle.byte_enables.specs.Enables.{enablesAllowed}
 use Rattle.tlp.specs.declared.packet.Kind.{Kind}
 use Rattle.tlp.specs.declared.packet.Packet.{Packet}
 use Rattle.tlp.specs.declared.packet_type.PacketType.{PacketType}
 use Rattle.tlp.specs.declared.packet_type.PacketType.the-variants.{Msg, MsgD, Unlisted}
 use Rattle.tlp.specs.declared.packet_type.Family.{Family}
 use Rattle.tlp.specs.declared.size.PacketSize.the-variants.{Bytes, Refused}
-use Rattle.tlp.specs.Rows.{first}
-use Rattle.tlp.specs.PacketTypes.{typeAt, familyOf}
+use Rattle.tlp.specs.Rows.{row, first}
+use Rattle.tlp.specs.PacketTypes.{typeAt}
 use Rattle.tlp.specs.Sizes.{bytesCalled, typeRows, sizeRows, sizeAnswer, sizeCalled}
-use Rattle.tlp.specs.Contents.{valueRows, contentRows}
+use Rattle.tlp.specs.Contents.{notPlain, ruledAsOne, registerRows, faultRows}
 use Rattle.tlp.specs.Packets.{addressOf, typeIn, typeOf, accessIn, accessOf}
 
 module _ (p : Packet) (k : Kind) (a : ℕ) (e : p .kind ≡ k) (h : a ≡ addressOf (p .route)) where
@@ -31,10 +32,15 @@ module _ (p : Packet) (k : Kind) (a : ℕ) (e : p .kind ≡ k) (h : a ≡ addres
   unfolding accessOf
   access-law r q = rw (e, ← h) q
 
--- content rows, of what the calls before them gave
-pub content-law : (mps : ℕ) (t : PacketType) (p : Packet) (at m : ℕ) (a : Access) (f : Family) → a ≡ accessOf p → f ≡ familyOf t
-    → m ≡ first (valueRows mps t f a (p .«traffic_class») (p .attributes) at) → m ≡ first (contentRows mps t p at)
-content-law mps t p at m a f e h q = rw (← e, ← h) q
+-- rows 6 to 8, by the family
+pub fault-law : (f g : Family) (a : Access) (tc attr at m : ℕ) → f ≡ g → m ≡ first (faultRows g a tc attr at) → m ≡ first (faultRows f a tc attr at)
+fault-law f g a tc attr at m e q = rw e q
+
+-- enables looked at as for length 1
+pub register-law : (a x : Access) (tc attr at m : ℕ) → x ≡ ruledAsOne a
+    → m ≡ first (row 6 (notPlain a tc attr at) ∷ row 7 (not (enablesAllowed x)) ∷ [])
+    → m ≡ first (registerRows a tc attr at)
+register-law a x tc attr at m e q = rw (← e) q
 
 -- sizes
 module _ (s : List ℕ) (b : ℕ) (t : PacketType) (n : ℕ) (e : b ≡ byte s 0) (h : t ≡ typeAt b) (q : n ≡ first (typeRows (length s) t)) where

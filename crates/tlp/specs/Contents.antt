@@ -47,14 +47,24 @@ pageBad Unlisted a = false
 unfoldable pub plainBad : Family → Access → ℕ → ℕ → ℕ → Bool
 plainBad f a tc attr at = isIoOrConfig f && notPlain a tc attr at
 
--- rows 5 to 8 of a type t of family f; at is the AT field
-abbrev pub valueRows : ℕ → PacketType → Family → Access → ℕ → ℕ → ℕ → List Row
-valueRows mps t f a tc attr at =
-    row 5 (ltb mps (dataBytes t (a .length)))
-    ∷ row 6 (plainBad f a tc attr at)
+-- rows 6 to 8 of a family f; at is the AT field
+abbrev pub faultRows : Family → Access → ℕ → ℕ → ℕ → List Row
+faultRows f a tc attr at =
+    row 6 (plainBad f a tc attr at)
     ∷ row 7 (enablesBad f a)
     ∷ row 8 (pageBad f a)
     ∷ []
+
+-- those of them that can hold of a memory request, and of I/O and configuration; of other families none can
+abbrev pub memoryRows : Access → List Row
+memoryRows a = row 7 (not (enablesAllowed a)) ∷ row 8 (crossesPage a) ∷ []
+
+abbrev pub registerRows : Access → ℕ → ℕ → ℕ → List Row
+registerRows a tc attr at = row 6 (notPlain a tc attr at) ∷ row 7 (not (enablesAllowed (ruledAsOne a))) ∷ []
+
+-- rows 5 to 8 of a type t of family f
+abbrev pub valueRows : ℕ → PacketType → Family → Access → ℕ → ℕ → ℕ → List Row
+valueRows mps t f a tc attr at = row 5 (ltb mps (dataBytes t (a .length))) ∷ faultRows f a tc attr at
 
 -- rows 5 to 8 of a packet of type t
 abbrev pub contentRows : ℕ → PacketType → Packet → ℕ → List Row

@@ -99,6 +99,10 @@ familyOf Cpl = Completion
 familyOf CplD = Completion
 familyOf Unlisted = NoFamily
 
+-- the family by Type 4:0 alone, for a type in the table
+abbrev pub familyByType : ℕ → Family
+familyByType n = pick (eqb n 0) Memory (pick (eqb n 2) Io (pick (eqb n 4) Config (pick (eqb n 5) Config (pick (eqb n 10) Completion Message))))
+
 -- "byte 0 is not in the kind table"
 abbrev pub isUnlisted : Family → Bool
 isUnlisted Memory = false

@@ -108,7 +108,7 @@ pub fn id_of(r: Route) -> u16
 }
 
 // The 32-bit form for addresses below 4 GiB, the 64-bit form for others.
-fn memory_form(address: u64, narrow: PacketType, wide: PacketType) -> PacketType
+pub fn memory_form(address: u64, narrow: PacketType, wide: PacketType) -> PacketType
     ensures { λ t. ⌜ t ≡ memoryForm address narrow wide ⌝ }
 {
     if address < 4294967296 {
@@ -147,7 +147,7 @@ pub fn type_of(p: Packet) -> PacketType
 }
 
 // A request's stretch, with an address.
-fn access_at(address: u64, q: Request) -> Access
+pub fn access_at(address: u64, q: Request) -> Access
     ensures { λ a. ⌜ a ≡ accessAt address q ⌝ }
 {
     Access {

@@ -1,11 +1,11 @@
 // The kind table: packet types by byte 0, their header sizes, and whether data follows.
 ghost use mathlib.Core.Path.{_≡_};
 ghost use Prim.Native.Nat.{_/_, _%_};
-ghost use mathlib.Core.Bool.{false};
+ghost use mathlib.Core.Bool.{false, not};
 ghost use lib.Dec.{eqb};
 ghost use Rattle.bits.specs.Choice.{pick};
 ghost use Rattle.bits.specs.Field.{bit};
-ghost use Rattle.tlp.specs.PacketTypes.{typeAt, headerDw, hasData, firstByte, familyOf, isUnlisted, isMemory, isIoOrConfig, isMessage};
+ghost use Rattle.tlp.specs.PacketTypes.{typeAt, headerDw, hasData, firstByte, familyOf, familyByType, isUnlisted, isIoOrConfig};
 
 pub enum PacketType {
     MRd32,
@@ -153,40 +153,31 @@ pub fn family_of(t: PacketType) -> Family
     }
 }
 
-// The family f where the header has three doublewords.
-fn of_three(b0: u8, f: Family) -> Family
-    ensures { λ r. ⌜ r ≡ pick (eqb (b0 / 32 % 2) 0) f Family.Unlisted ⌝ }
-{
-    if b0 / 32 % 2 == 0 {
-        return f;
-    }
-    Family::Unlisted
-}
+// A bit for each value of bits 5:0 in the table: Fmt bit 1, data or none, does not matter to it.
+const LISTED: u64 = 0x00FF_0001_0000_0435;
 
-fn message_or_none(b0: u8) -> Family
-    ensures { λ r. ⌜ r ≡ pick (eqb (b0 / 8 % 8) 6) Family.Message Family.Unlisted ⌝ }
-{
-    if b0 / 8 % 8 == 6 {
-        return Family::Message;
-    }
-    Family::Unlisted
-}
-
-// The family by byte 0, from Type 4:0 and Fmt: one branch for all types of a family.
-pub fn family_at(b0: u8) -> Family
-    ensures { λ r. ⌜ r ≡ familyOf (typeAt b0) ⌝ }
+// Whether byte 0 is in the table, with no branch by type.
+pub fn is_listed(b0: u8) -> bool
+    ensures { λ r. ⌜ r ≡ not (isUnlisted (familyOf (typeAt b0))) ⌝ }
 {
     if 128 <= b0 {
-        return Family::Unlisted;
+        return false;
     }
+    (LISTED >> (b0 % 64)) % 2 == 1
+}
+
+// The family by Type 4:0 alone, for a type in the table.
+pub fn family_by_type(b0: u8) -> Family
+    ensures { λ r. ⌜ (r ≡ familyByType (b0 % 32)) × (isUnlisted (familyOf (typeAt b0)) ≡ false → r ≡ familyOf (typeAt b0)) ⌝ }
+{
     let n = b0 % 32;
     match n {
         0 => Family::Memory,
-        2 => of_three(b0, Family::Io),
-        4 => of_three(b0, Family::Config),
-        5 => of_three(b0, Family::Config),
-        10 => of_three(b0, Family::Completion),
-        _ => message_or_none(b0),
+        2 => Family::Io,
+        4 => Family::Config,
+        5 => Family::Config,
+        10 => Family::Completion,
+        _ => Family::Message,
     }
 }
 
@@ -218,20 +209,6 @@ pub fn is_unlisted(f: Family) -> bool
     }
 }
 
-// Memory requests.
-pub fn is_memory(f: Family) -> bool
-    ensures { λ r. ⌜ r ≡ isMemory f ⌝ }
-{
-    match f {
-        Family::Memory => true,
-        Family::Io => false,
-        Family::Config => false,
-        Family::Message => false,
-        Family::Completion => false,
-        Family::Unlisted => false,
-    }
-}
-
 // I/O and configuration requests.
 pub fn is_io_or_config(f: Family) -> bool
     ensures { λ r. ⌜ r ≡ isIoOrConfig f ⌝ }
@@ -241,20 +218,6 @@ pub fn is_io_or_config(f: Family) -> bool
         Family::Io => true,
         Family::Config => true,
         Family::Message => false,
-        Family::Completion => false,
-        Family::Unlisted => false,
-    }
-}
-
-// Messages.
-pub fn is_message(f: Family) -> bool
-    ensures { λ r. ⌜ r ≡ isMessage f ⌝ }
-{
-    match f {
-        Family::Memory => false,
-        Family::Io => false,
-        Family::Config => false,
-        Family::Message => true,
         Family::Completion => false,
         Family::Unlisted => false,
     }

@@ -10,25 +10,17 @@ pub struct Settings {
     pub rcb: u32,
 }
 
+// The powers of two from 128 to 4096.
 fn size_listed(n: u32) -> bool
     ensures { λ r. ⌜ r ≡ oneOf sizes n ⌝ }
 {
-    if n == 128 {
-        return true;
+    if n < 128 {
+        return false;
     }
-    if n == 256 {
-        return true;
+    if 4096 < n {
+        return false;
     }
-    if n == 512 {
-        return true;
-    }
-    if n == 1024 {
-        return true;
-    }
-    if n == 2048 {
-        return true;
-    }
-    n == 4096
+    u32::count_ones(n) == 1
 }
 
 fn boundary_listed(n: u32) -> bool

@@ -55,8 +55,9 @@ pub fn digest_at(bytes: &[u8]) -> bool
 pub fn data_bytes(t: PacketType, n: u32) -> usize
     ensures { λ r. ⌜ r ≡ dataBytes t n ⌝ }
 {
+    let all = 4 * n as usize;
     if has_data(t) {
-        return 4 * n as usize;
+        return all;
     }
     0
 }

@@ -5,11 +5,10 @@ use lib.Dec.{eqb, ltb}
 use mathlib.Core.Path.{_≡_, refl, sym, ap, _∙_}
 use mathlib.Core.Logic.{⊎-elim}
 use native.Mathlib.Nat.{eq-zero-or-pos}
-use mathlib.Core.Bool.{Bool, true, false, _&&_, not, true≢false, and-eq-true-iff}
+use mathlib.Core.Bool.{Bool, true, false, _&&_}
 use mathlib.Core.List.{List, _++_}
 use lib.ListN.{length}
-use borrow.Author.Tests.{lt-ltb, le-ltb, ltb-false, eqb-true, eqb-false, not-true, not-false}
-use Rattle.tlp.specs.Settings.{settingsListed}
+use borrow.Author.Tests.{lt-ltb, le-ltb, ltb-false, eqb-true, eqb-false}
 use Rattle.tlp.specs.declared.settings.Settings.{Settings}
 use Rattle.tlp.specs.declared.refusal.Refusal.{Refusal}
 use Rattle.tlp.specs.declared.packet.Packet.{Packet}
@@ -25,13 +24,10 @@ use Rattle.tlp_read.specs.declared.ReadAnswer.{ReadAnswer}
 use Rattle.tlp_read.specs.declared.ReadAnswer.the-variants.{Accepted, Refused}
 use Rattle.tlp_write.specs.declared.WriteAnswer.{WriteAnswer}
 use Rattle.tlp_write.specs.declared.WriteAnswer.the-variants.{Written, Refused as NotWritten}
-use Rattle.tlp_write.specs.Write.{earlyRows, writePacket, laterPacket, writeOut, laterOut, overFront, numberOf}
-use Rattle.tlp_write.proofs.WriteLaws.{later-answer, later-out}
-use Rattle.bits.specs.Choice.{pick}
-use Rattle.tlp_given.specs.Given.{commonBad, ownBad, reservedGiven, routeBad, givenRows}
-use Rattle.tlp_record.specs.Record.{recordOf, packetIn, isRecord}
-use Rattle.tlp_fit.specs.Fit.{writable}
-use Rattle.tlp_c.specs.Calls.{readNumber, readRecord, sizeWritten, writeNumber, writtenOut, writtenSize}
+use Rattle.tlp_write.specs.Write.{overFront}
+use Rattle.tlp_record.specs.Record.{recordOf}
+use Rattle.tlp_record_write.specs.RecordWrite.{recordAnswer}
+use Rattle.tlp_c.specs.Calls.{readNumber, readRecord, writeNumber, writtenSize}
 
 -- ---- reading
 
@@ -80,9 +76,9 @@ module _ (c : Settings) (s : List ℕ) (n : ℕ) (e : n ≡ first (readRows c s)
     rows-clear : NoneHold (readRows c s)
     rows-clear = first-none (readRows c s) refl (sym e ∙ z)
 
-    module _ (b : ℕ) (f : Family) (eb : b ≡ byte s 0) (ef : f ≡ familyOf (typeAt b)) where
+    module _ (b : ℕ) (f : Family) (eb : b ≡ byte s 0) (ef : isUnlisted (familyOf (typeAt b)) ≡ false → f ≡ familyOf (typeAt b)) where
       pub read-family : f ≡ familyOf (typeAt (byte s 0))
-      read-family = rw (← eb) ef
+      read-family = rw eb at ef (rows-clear .1 .1 .0)
 
       pub read-listed : isUnlisted f ≡ false
       read-listed = rw read-family (rows-clear .1 .1 .0)
@@ -97,95 +93,21 @@ pub ruleset read-laws = (read-refused-number, read-refused-record, read-short-nu
 
 -- ---- writing
 
--- a record that can be written has no row for the first 6; another is no record, or has one
-six : (a b c d : Bool) (m : ℕ) → eqb (pick a 6 (pick b 6 (pick c 6 (pick d 6 0)))) 0 ≡ false → pick a 6 (pick b 6 (pick c 6 (pick d 6 m))) ≡ 6
-six true b c d m e = refl
-six false true c d m e = refl
-six false false true d m e = refl
-six false false false true m e = refl
-six false false false false m e = absurd (true≢false e)
-
-not-fit : (b : Bool) (g : ℕ) → b && eqb g 0 ≡ false → (b ≡ true → eqb g 0 ≡ false)
-not-fit true g e h = e
-not-fit false g e h = absurd (true≢false (sym h))
-
-module _ (c : Settings) (s : List ℕ) (l : Bool) (el : l ≡ settingsListed c) where
-  module _ (h : not l ≡ true) where
-    pub unlisted-number : (n room : ℕ) → 11 ≡ writeNumber c s n room
+module _ (c : Settings) (s : List ℕ) (n room : ℕ) (x : WriteAnswer) (ex : x ≡ recordAnswer c s n room) where
+  module _ (r : Refusal) (q : x ≡ NotWritten r) where
+    pub not-written-number : r .number ≡ writeNumber c s n room
     unfolding writeNumber
-    unlisted-number n room = rw (← el, h)
+    not-written-number = rw (← ex, q)
 
-    pub unlisted-out : (payload out : List ℕ) → out ≡ writtenOut c s payload out
-    unfolding writtenOut
-    unlisted-out payload out = rw (← el, h)
-
-    pub unlisted-size : (n room old : ℕ) → old ≡ writtenSize c s n room old
+    pub not-written-size : (old : ℕ) → old ≡ writtenSize c s n room old
     unfolding writtenSize
-    unlisted-size n room old = rw (← el, h)
+    not-written-size old = rw (← ex, q)
 
-  module _ (h : not l ≡ false) (f : Bool) (ef : f ≡ writable s) where
-    module _ (k : not f ≡ true) where
-      -- a record that cannot be written is refused by 6
-      refused : isRecord s ≡ true → (n room : ℕ) → writePacket c (packetIn s) n room ≡ NotWritten (record { number = 6 })
-      unfolding writable writePacket first
-      refused r n room =
-          let p = packetIn s in
-          let g : eqb (first (givenRows p)) 0 ≡ false = not-fit (isRecord s) (first (givenRows p)) (sym ef ∙ not-true f k) r in
-          rw (← el, h, six (commonBad p) (ownBad (p .kind)) (reservedGiven p) (routeBad (p .route) (p .kind)) _ g)
+  module _ (m : ℕ) (q : x ≡ Written m) where
+    pub written-number : 0 ≡ writeNumber c s n room
+    unfolding writeNumber
+    written-number = rw (← ex, q)
 
-      pub unfit-number : (n room : ℕ) → 6 ≡ writeNumber c s n room
-      unfolding writeNumber
-      unfit-number n room = rw (← el, h) (by (isRecord s) refl)
-        where
-          by : (b : Bool) → isRecord s ≡ b → 6 ≡ pick (not b) 6 (numberOf (writePacket c (packetIn s) n room))
-          by true r = rw (refused r n room)
-          by false r = refl
-
-      pub unfit-out : (payload out : List ℕ) → out ≡ writtenOut c s payload out
-      unfolding writtenOut writeOut
-      unfit-out payload out = rw (← el, h) (by (isRecord s) refl)
-        where
-          by : (b : Bool) → isRecord s ≡ b → out ≡ pick (not b) out (writeOut c (packetIn s) payload out)
-          by true r = rw (refused r (length payload) (length out))
-          by false r = refl
-
-      pub unfit-size : (n room old : ℕ) → old ≡ writtenSize c s n room old
-      unfolding writtenSize
-      unfit-size n room old = rw (← el, h) (by (isRecord s) refl)
-        where
-          by : (b : Bool) → isRecord s ≡ b → old ≡ pick (not b) old (sizeWritten (writePacket c (packetIn s) n room) old)
-          by true r = rw (refused r n room)
-          by false r = refl
-
-    module _ (k : not f ≡ false) (p : Packet) (ep : p ≡ packetIn s) where
-      both : (isRecord s ≡ true) × (eqb (first (givenRows (packetIn s))) 0 ≡ true)
-      unfolding writable
-      both = and-eq-true-iff (isRecord s) (eqb (first (givenRows (packetIn s))) 0) .0 (sym ef ∙ not-false f k)
-
-      none-early : 0 ≡ first (earlyRows c p)
-      unfolding first
-      none-early = rw (← el, h, ep) (sym (eqb-true (first (givenRows (packetIn s))) 0 (both .1)))
-
-      pub written-out : (payload out o : List ℕ) → o ≡ laterOut c p payload out → o ≡ writtenOut c s payload out
-      unfolding writtenOut
-      written-out payload out o q = rw (← el, h, both .0, ← ep) (later-out c p 0 none-early payload out o refl q)
-
-      module _ (n room : ℕ) (x : WriteAnswer) (ex : x ≡ laterPacket c p n room) where
-        ew : x ≡ writePacket c p n room
-        ew = later-answer c p 0 none-early n room x refl ex
-
-        pub not-written-number : (r : Refusal) → x ≡ NotWritten r → r .number ≡ writeNumber c s n room
-        unfolding writeNumber
-        not-written-number r q = rw (← el, h, both .0, ← ep, ← ew, q)
-
-        pub not-written-size : (r : Refusal) (old : ℕ) → x ≡ NotWritten r → old ≡ writtenSize c s n room old
-        unfolding writtenSize
-        not-written-size r old q = rw (← el, h, both .0, ← ep, ← ew, q)
-
-        pub written-number : (m : ℕ) → x ≡ Written m → 0 ≡ writeNumber c s n room
-        unfolding writeNumber
-        written-number m q = rw (← el, h, both .0, ← ep, ← ew, q)
-
-        pub written-size : (m old : ℕ) → x ≡ Written m → m ≡ writtenSize c s n room old
-        unfolding writtenSize
-        written-size m old q = rw (← el, h, both .0, ← ep, ← ew, q)
+    pub written-size : (old : ℕ) → m ≡ writtenSize c s n room old
+    unfolding writtenSize
+    written-size old = rw (← ex, q)

@@ -2,18 +2,19 @@
 mod lay;
 
 use bits::word::byte_at;
-use tlp::packet_type::family_at;
+use tlp::packet_type::family_by_type;
 use tlp::settings::Settings;
-use tlp::settings::settings_listed;
+use tlp_read::fields::digest_word;
 use tlp_read::read_number;
-use tlp_record::packet_in;
+use tlp_record_write::write_record;
 use tlp_write::WriteAnswer;
 ghost use mathlib.Core.Path.{_≡_};
 ghost use mathlib.Core.List.{_++_};
 ghost use Prim.Native.Nat.{ℕ};
 ghost use lib.ListN.{length, drop};
 ghost use Rattle.tlp_read.specs.Read.{readPacket};
-ghost use Rattle.tlp_c.specs.Calls.{settingsOf, readNumber, readRecord, writeNumber, writtenOut, writtenSize};
+ghost use Rattle.tlp_c.specs.Calls.{settingsOf, readNumber, readRecord, writeNumber, writtenSize};
+ghost use Rattle.tlp_record_write.specs.RecordWrite.{recordOut};
 
 // Reads a packet. Answers 0 with the packet's record over the front of record, or the number of the refusal with record as it was.
 #[no_mangle]
@@ -39,7 +40,9 @@ pub extern "C" fn tollpebble_read(
     if record.len() < 48 {
         return 12;
     }
-    lay::put_record(family_at(byte_at(packet, 0)), packet, record);
+    let digest = digest_word(packet);
+    let f = family_by_type(byte_at(packet, 0));
+    lay::put_record(f, digest, packet, record);
     0
 }
 
@@ -56,7 +59,7 @@ pub extern "C" fn tollpebble_write(
     size: &mut u64,
 ) -> u32
     ensures { λ r. ⌜ r ≡ writeNumber (settingsOf mps mrrs rcb) (now («record» .entry)) (length (now (payload .entry))) (length (now (out .entry))) ⌝ }
-    ensures { λ _. ⌜ now (out .exit) ≡ writtenOut (settingsOf mps mrrs rcb) (now («record» .entry)) (now (payload .entry)) (now (out .entry)) ⌝ }
+    ensures { λ _. ⌜ now (out .exit) ≡ recordOut (settingsOf mps mrrs rcb) (now («record» .entry)) (now (payload .entry)) (now (out .entry)) ⌝ }
     ensures { λ _. ⌜ now (size .exit) ≡ writtenSize (settingsOf mps mrrs rcb) (now («record» .entry)) (length (now (payload .entry))) (length (now (out .entry))) (now (size .entry)) ⌝ }
 {
     let settings = Settings {
@@ -64,13 +67,7 @@ pub extern "C" fn tollpebble_write(
         mrrs: mrrs,
         rcb: rcb,
     };
-    if !settings_listed(settings) {
-        return 11;
-    }
-    if !tlp_fit::fits(record) {
-        return 6;
-    }
-    let answer = tlp_write::write_later(settings, packet_in(record), payload, out);
+    let answer = write_record(settings, record, payload, out);
     match answer {
         WriteAnswer::Refused(r) => r.number,
         WriteAnswer::Written(n) => {

@@ -264,29 +264,37 @@ laterRows mps s =
     ∷ row 3 (not (eqb (length s) (bytesCalled (typeIn s) s)))
     ∷ judgeRows mps (typeIn s) s
 
-module _ (s : List ℕ) (b : ℕ) (f : Family) (u : Bool) (eb : b ≡ byte s 0) (ef : f ≡ familyOf (typeAt b)) (eu : u ≡ isUnlisted f) where
-  unlisted-is : u ≡ isUnlisted (familyOf (typeIn s))
-  unlisted-is = rw (← eb, ← ef) eu
+module _ (s : List ℕ) (b : ℕ) (u : Bool) (eb : b ≡ byte s 0) (eu : u ≡ not (isUnlisted (familyOf (typeAt b)))) where
+  listed-is : u ≡ not (isUnlisted (familyOf (typeIn s)))
+  listed-is = rw (← eb) eu
 
-  pub later-family : f ≡ familyOf (typeIn s)
-  later-family = rw (← eb) ef
+  unlisted-is : not u ≡ isUnlisted (familyOf (typeIn s))
+  unlisted-is = ap not listed-is ∙ twice (isUnlisted (familyOf (typeIn s)))
+    where
+      twice : (c : Bool) → not (not c) ≡ c
+      twice true = refl
+      twice false = refl
 
-  pub later-listed : u ≡ false → Listed s
+  pub later-listed : not u ≡ false → Listed s
   later-listed z = sym unlisted-is ∙ z
 
-  pub later-known : u ≡ false → isUnlisted f ≡ false
-  later-known z = sym eu ∙ z
+  module _ (z : not u ≡ false) (f : Family) (ef : isUnlisted (familyOf (typeAt b)) ≡ false → f ≡ familyOf (typeAt b)) where
+    pub later-family : f ≡ familyOf (typeIn s)
+    later-family = rw eb at ef (later-listed z)
+
+    pub later-known : isUnlisted f ≡ false
+    later-known = rw later-family (later-listed z)
 
   module _ (mps : ℕ) where
-    pub later-2 : u ≡ true → 2 ≡ first (laterRows mps s)
-    later-2 q = here _ 2 u (isUnlisted (familyOf (typeIn s))) unlisted-is q
+    pub later-2 : not u ≡ true → 2 ≡ first (laterRows mps s)
+    later-2 q = here _ 2 (not u) (isUnlisted (familyOf (typeIn s))) unlisted-is q
 
-    module _ (z : u ≡ false) (h : ℕ) (eh : h ≡ 4 * headerDw (typeIn s)) where
+    module _ (z : not u ≡ false) (h : ℕ) (eh : h ≡ 4 * headerDw (typeIn s)) where
       pub later-1 : 12 ≤ length s → length s < h → 1 ≡ first (laterRows mps s)
       later-1 l q =
           let k = fmt-law (byte s 0) (later-listed z) .0 in
           let e : headerDw (typeIn s) ≡ 4 = omega (arith, eh, k, l, q) in
-          next _ 1 2 u (isUnlisted (familyOf (typeIn s))) unlisted-is z
+          next _ 1 2 (not u) (isUnlisted (familyOf (typeIn s))) unlisted-is z
           (here _ 1 true _ (sym (rw (e, lt-ltb (length s) 16 (omega (arith, eh, e, q))))) refl)
 
       module _ (l : h ≤ length s) where
@@ -295,7 +303,7 @@ module _ (s : List ℕ) (b : ℕ) (f : Family) (u : Bool) (eb : b ≡ byte s 0) 
 
         after-1 : (m : ℕ) → m ≡ first (row 3 (not (eqb (length s) (bytesCalled (typeIn s) s))) ∷ judgeRows mps (typeIn s) s) → m ≡ first (laterRows mps s)
         after-1 m q =
-            next _ m 2 u (isUnlisted (familyOf (typeIn s))) unlisted-is z
+            next _ m 2 (not u) (isUnlisted (familyOf (typeIn s))) unlisted-is z
             (next _ m 1 false _ (short-row (headerDw (typeIn s)) (length s) later-room) refl q)
 
         module _ (d n : ℕ) (ed : d ≡ dataBytes (typeIn s) (accessOf (packetAt (typeIn s) s) .length)) (es : n ≡ h + d + digestBytes (digestAt s)) where

@@ -10,8 +10,8 @@ use byte_enables::enables_allowed;
 use tlp::content::crosses_page;
 use tlp::packet_type::Family;
 use tlp::packet_type::data_follows;
-use tlp::packet_type::family_at;
-use tlp::packet_type::is_unlisted;
+use tlp::packet_type::family_by_type;
+use tlp::packet_type::is_listed;
 use tlp::packet_type::is_wide;
 use tlp::size::digest_at;
 use tlp::size::digest_bytes;
@@ -209,8 +209,8 @@ pub(crate) fn later_number(mps: u32, s: &[u8]) -> u32
     requires { ⌜ 12 ≤ length (now s) ⌝ }
     ensures { λ r. ⌜ r ≡ first (row 2 (isUnlisted (familyOf (typeAt (byte (now (s .entry)) 0)))) ∷ row 1 (eqb (headerDw (typeAt (byte (now (s .entry)) 0))) 4 && ltb (length (now (s .entry))) 16) ∷ row 3 (not (eqb (length (now (s .entry))) (bytesCalled (typeAt (byte (now (s .entry)) 0)) (now (s .entry))))) ∷ judgeRows mps (typeAt (byte (now (s .entry)) 0)) (now (s .entry))) ⌝ }
 {
-    let f = family_at(byte_at(s, 0));
-    if is_unlisted(f) {
+    let b0 = byte_at(s, 0);
+    if !is_listed(b0) {
         return 2;
     }
     let header = header_size(s);
@@ -221,5 +221,5 @@ pub(crate) fn later_number(mps: u32, s: &[u8]) -> u32
     if s.len() != size_called(header, payload, s) {
         return 3;
     }
-    judge_number(mps, payload, f, s)
+    judge_number(mps, payload, family_by_type(b0), s)
 }

@@ -19,8 +19,6 @@ use Rattle.tlp.specs.declared.packet.Kind.the-variants.{MemoryRead, MemoryWrite
 use Rattle.tlp.specs.declared.packet.Packet.{Packet}
 use Rattle.tlp.specs.Packets.{idOf}
 use Rattle.tlp_record.specs.declared.OwnFields.{OwnFields}
-use Rattle.tlp_record.specs.declared.RecordAnswer.{RecordAnswer}
-use Rattle.tlp_record.specs.declared.RecordAnswer.the-variants.{Described, NoRecord}
 
 -- ---- from a packet to its record
 
@@ -223,7 +221,3 @@ sameList (x ∷ xs) (y ∷ ys) = eqb x y && sameList xs ys
 -- something in a field that the kind does not have, is not.
 unfoldable pub isRecord : List ℕ → Bool
 isRecord s = sameList (recordOf (packetIn s)) s
-
--- the packet that bytes describe, if they are a record
-unfoldable pub describedBy : List ℕ → RecordAnswer
-describedBy s = pick (isRecord s) (Described (packetIn s)) NoRecord

@@ -1,3 +1,4 @@
 pub mod LayoutLaws
 pub mod PutLaws
+pub mod WordLaws
 pub mod WriteLaws

@@ -5,127 +5,252 @@ use mathlib.Core.Bool.{Bool, true, false, not}
 use mathlib.Core.List.{List, [], _∷_, _++_, append-assoc}
 use native.Mathlib.Omega.{arith}
 use lib.Dec.{eqb, ltb}
-use lib.ListN.{length, length-append}
-use borrow.Author.Tests.{eqb-true, ltb-false, not-false}
+use lib.ListN.{length, take, length-append}
+use mir.Val.{Fits}
+use mir.Syntax.{w32}
+use borrow.Author.Tests.{eqb-true, ltb-false, not-false, ne-eqb}
 use Rattle.bits.specs.Choice.{pick}
 use Rattle.bits.specs.Word.{bytes}
+use Rattle.bits.specs.Put.{put}
+use Rattle.bits.proofs.PutLaws.{length-put}
 use Rattle.byte_enables.specs.declared.Access.{Access}
 use Rattle.tlp.specs.Rows.{Row, row, first}
-use Rattle.tlp.proofs.RowLaws.{some-of, none-of, first-none}
-use Rattle.tlp.specs.PacketTypes.{headerDw}
+use Rattle.tlp.proofs.RowLaws.{some-of, none-of}
+use Rattle.tlp.specs.PacketTypes.{headerDw, familyOf}
+use Rattle.tlp.proofs.Bounds.{data-le}
 use Rattle.tlp.specs.Packets.{typeOf, accessOf}
 use Rattle.tlp.specs.Sizes.{dataBytes, digestBytes}
-use Rattle.tlp.specs.Contents.{contentRows}
+use Rattle.tlp.specs.Contents.{plainBad, enablesBad, pageBad, faultRows}
 use Rattle.tlp.specs.declared.settings.Settings.{Settings}
 use Rattle.tlp.specs.declared.packet.Packet.{Packet}
 use Rattle.tlp.specs.declared.packet_type.PacketType.{PacketType}
+use Rattle.tlp.specs.declared.packet_type.Family.{Family}
 use Rattle.tlp_write.specs.declared.WriteAnswer.{WriteAnswer}
 use Rattle.tlp_write.specs.declared.WriteAnswer.the-variants.{Written, Refused}
-use Rattle.bits.specs.Put.{put}
-use Rattle.tlp_write.specs.Layout.{headerOf, digestOf, bytesOf, sizeOf}
-use Rattle.tlp_write.specs.Write.{laterRows, earlyRows, writeAnswer, writePacket, laterPacket, overFront, writeOut, laterOut}
-use Rattle.bits.proofs.PutLaws.{length-put}
+use Rattle.tlp_write.specs.declared.words.Words.{Words}
+use Rattle.tlp_write.specs.declared.head.Head.{Head}
+use Rattle.tlp_write.specs.Layout.{routingIn, ownBytes, frontBytes, headerOf, digestOf, bytesOf, sizeOf}
+use Rattle.tlp_write.specs.Write.{laterRows, earlyRows, writeAnswer, writePacket, overFront, writeOut}
+use Rattle.tlp_write.specs.Head.{wordBytes, headFront, headSize, headBytes, headDigest, dataSize, wholeSize, headRows, headAnswer, headOut, IsHead}
+use Rattle.tlp_write.specs.Padded.{padded}
 use Rattle.tlp_write.proofs.PutLaws.{put-front, put-next}
-use Rattle.tlp_write.proofs.LayoutLaws.{header-length}
+use Rattle.tlp_write.proofs.LayoutLaws.{routing-low, header-length, header-front, three-or-four}
 
-module _ (p : Packet) (t : PacketType) (a : Access) (e : t ≡ typeOf p) (f : a ≡ accessOf p) where
-  pub size-law : (n : ℕ) → n ≡ 4 * headerDw t + dataBytes t (a .length) + digestBytes (p .«has_digest») → n ≡ sizeOf p
-  unfolding sizeOf
-  size-law n k = rw (← e, ← f) k
+pub size-law : (p : Packet) (t : PacketType) (a : Access) (d n : ℕ) → t ≡ typeOf p → a ≡ accessOf p → d ≡ dataBytes t (a .length)
+    → n ≡ pick (eqb (headerDw t) 4) 16 12 + d + digestBytes (p .«has_digest») → n ≡ sizeOf p
+unfolding sizeOf
+size-law p t a d n e f g k = rw (g, e, f, three-or-four p) at k
 
-  pub held-law : (n : ℕ) → n ≡ dataBytes t (a .length) → n ≡ dataBytes (typeOf p) (accessOf p .length)
-  held-law n k = rw (← e, ← f) k
+-- ---- sizes
 
-  pub length-law : a .length ≡ accessOf p .length
-  length-law = rw f
+pub wide-law : (t : PacketType) (n : ℕ) → n ≡ headerDw t → eqb n 4 ≡ eqb (headerDw t) 4
+wide-law t n e = rw e
 
--- several rows by one call, none of which holds
+pub held-le : (t : PacketType) (d n : ℕ) → d ≡ dataBytes t n → Fits w32 n → d ≤ 17179869180
+held-le t d n e h = omega (arith, e, data-le t n, h .fits)
 
-module _ (r m : ℕ) (ys : List Row) (z : r ≡ 0) (q : m ≡ first ys) where
-  pub content-none : (mps : ℕ) (t : PacketType) (p : Packet) → r ≡ first (contentRows mps t p 0) → m ≡ first (contentRows mps t p 0 ++ ys)
-  content-none mps t p e = none-of (contentRows mps t p 0) ys r m refl e z q
-
--- rows, of the type that the caller gave
-pub later-law : (c : Settings) (p : Packet) (n room m : ℕ) (t : PacketType) → t ≡ typeOf p
-    → m
-    ≡ first (row 3 (not (eqb n (dataBytes (typeOf p) (accessOf p .length))))
-    ∷ (contentRows (c .mps) t p 0
-    ++ (row 12 (ltb room (sizeOf p))
-    ∷ [])))
-    → m ≡ first (laterRows c p n room)
-later-law c p n room m t e q = rw e at q
+pub whole-law : (h : Head) (d n : ℕ) → d ≡ dataSize h → n ≡ pick (eqb (headerDw (h .«packet_type»)) 4) 16 12 + d + digestBytes (h .«has_digest») → n ≡ wholeSize h
+whole-law h d n e k = rw e at k
 
 -- ---- the packet over the output
 
-module _ (p : Packet) (payload : List ℕ) where
-  pub bytes-length : length (bytesOf p payload) ≡ length (headerOf p) + length payload + length (digestOf p)
-  unfolding bytesOf
-  bytes-length = simp length-append (omega arith)
-
-  pub front-end : (n r : ℕ) → n ≡ length (headerOf p) → r ≡ n + length payload → r ≡ length (headerOf p) + length payload
-  front-end n r e f = rw e at f
-
-  module _ (out : List ℕ) where
-    pub front-room : length (bytesOf p payload) ≤ length out → length (headerOf p) + length payload ≤ length out
-    front-room h = omega (arith, bytes-length)
-
-    pub front-put : (o1 o2 : List ℕ) (n : ℕ) → n ≡ length (headerOf p) → o1 ≡ put 0 (headerOf p) out → o2 ≡ put n payload o1
-        → o2 ≡ put 0 (headerOf p ++ payload) out
-    front-put o1 o2 n e f g = rw (f, e) at g ∙ put-next (headerOf p) payload out
-
-    module _ (o1 : List ℕ) (n : ℕ) (e : n ≡ length (headerOf p) + length payload) (f : o1 ≡ put 0 (headerOf p ++ payload) out) where
-      pub packet-room : length (bytesOf p payload) ≤ length out → n + length (digestOf p) ≤ length o1
-      packet-room h =
-          let l = length-append (headerOf p) payload in
-          let k : 0 + length (headerOf p ++ payload) ≤ length out = omega (arith, bytes-length) in
-          omega (arith, bytes-length, ap length f ∙ length-put 0 (headerOf p ++ payload) out k)
-
-      pub packet-put : (o2 : List ℕ) → o2 ≡ put n (digestOf p) o1 → o2 ≡ overFront (bytesOf p payload) out
-      unfolding bytesOf
-      packet-put o2 k =
-          let xs = (headerOf p ++ payload) ++ digestOf p in
-          rw (f, e, ← length-append) at k ∙ put-next (headerOf p ++ payload) (digestOf p) out ∙ put-front xs out ∙ rw (append-assoc (headerOf p) payload (digestOf p))
-
--- ---- answers
-
-digest-length : (p : Packet) → length (digestOf p) ≡ digestBytes (p .«has_digest»)
-unfolding digestOf digestBytes
-digest-length p = by (p .«has_digest»)
+head-length : (h : Head) → length (headBytes h) ≡ headSize h
+head-length h = by (eqb (headerDw (h .«packet_type»)) 4)
   where
-    by : (b : Bool) → length (pick b (bytes 4 (p .digest)) []) ≡ pick b 4 0
+    by : (b : Bool) → length (take (pick b 16 12) (headFront h ++ wordBytes (h .words))) ≡ pick b 16 12
     by true = refl
     by false = refl
 
-pub size-of-bytes : (p : Packet) (payload : List ℕ) → length payload ≡ dataBytes (typeOf p) (accessOf p .length) → length (bytesOf p payload) ≡ sizeOf p
-unfolding sizeOf
-size-of-bytes p payload h = omega (arith, bytes-length p payload, header-length p, digest-length p)
+digest-length : (h : Head) → length (headDigest h) ≡ digestBytes (h .«has_digest»)
+unfolding digestBytes
+digest-length h = by (h .«has_digest»)
+  where
+    by : (b : Bool) → length (pick b (bytes 4 (h .digest)) []) ≡ pick b 4 0
+    by true = refl
+    by false = refl
+
+module _ (h : Head) (payload : List ℕ) where
+  front-length : length (headBytes h ++ payload) ≡ headSize h + length payload
+  front-length = rw (length-append (headBytes h) payload, head-length h)
+
+  whole-length : length (headBytes h ++ (payload ++ headDigest h)) ≡ headSize h + length payload + digestBytes (h .«has_digest»)
+  whole-length = omega (arith, length-append (headBytes h) (payload ++ headDigest h), length-append payload (headDigest h), head-length h, digest-length h)
+
+  module _ (out o1 : List ℕ) (wide : Bool) (f n : ℕ) (ew : wide ≡ eqb (headerDw (h .«packet_type»)) 4) (ef : bytes 4 f ≡ headFront h) where
+    size-is : pick wide 16 12 ≡ headSize h
+    size-is = rw ew
+
+    pub words-room : length (headBytes h ++ payload) ≤ length out → pick wide 16 12 ≤ length out
+    words-room l = omega (arith, l, size-is, front-length)
+
+    module _ (en : n ≡ pick wide 16 12) (e1 : o1 ≡ put 0 (take (pick wide 16 12) (bytes 4 f ++ wordBytes (h .words))) out) where
+      first-put : o1 ≡ put 0 (headBytes h) out
+      first-put =
+          e1
+          ∙ ap (λ (b : Bool). put 0 (take (pick b 16 12) (bytes 4 f ++ wordBytes (h .words))) out) ew
+          ∙ ap (λ (l : List ℕ). put 0 (take (headSize h) (l ++ wordBytes (h .words))) out) ef
+
+      pub front-room : length (headBytes h ++ payload) ≤ length out → n + length payload ≤ length o1
+      front-room l =
+          let k : 0 + length (headBytes h) ≤ length out = omega (arith, l, front-length, head-length h) in
+          omega (arith, l, front-length, en, size-is, ap length first-put ∙ length-put 0 (headBytes h) out k)
+
+      pub front-end : (r : ℕ) → r ≡ n + length payload → r ≡ length (headBytes h ++ payload)
+      front-end r e = omega (arith, e, en, size-is, front-length)
+
+      pub front-put : (o2 : List ℕ) → o2 ≡ put n payload o1 → o2 ≡ put 0 (headBytes h ++ payload) out
+      front-put o2 e =
+          let k : n ≡ length (headBytes h) = omega (arith, en, size-is, head-length h) in
+          rw (k, first-put) at e ∙ put-next (headBytes h) payload out
+
+  module _ (out : List ℕ) where
+    pub packet-front : length (headBytes h ++ (payload ++ headDigest h)) ≤ length out → length (headBytes h ++ payload) ≤ length out
+    packet-front l = omega (arith, l, whole-length, front-length)
+
+    module _ (o1 : List ℕ) (n : ℕ) (e : n ≡ length (headBytes h ++ payload)) (f : o1 ≡ put 0 (headBytes h ++ payload) out) where
+      pub packet-room : length (headBytes h ++ (payload ++ headDigest h)) ≤ length out → n + length (headDigest h) ≤ length o1
+      packet-room l =
+          let k : 0 + length (headBytes h ++ payload) ≤ length out = omega (arith, packet-front l) in
+          omega (arith, l, whole-length, front-length, digest-length h, e, ap length f ∙ length-put 0 (headBytes h ++ payload) out k)
+
+      pub packet-put : (o2 : List ℕ) → o2 ≡ put n (headDigest h) o1 → o2 ≡ overFront (headBytes h ++ (payload ++ headDigest h)) out
+      packet-put o2 k =
+          rw (f, e) at k
+          ∙ put-next (headBytes h ++ payload) (headDigest h) out
+          ∙ put-front ((headBytes h ++ payload) ++ headDigest h) out
+          ∙ rw (append-assoc (headBytes h) payload (headDigest h))
+
+-- ---- answers
 
 answer-refused : (n size : ℕ) → (n ≡ 0 → ⊥) → Refused (record { number = n }) ≡ writeAnswer n size
 answer-refused zero size z = absurd (z refl)
 answer-refused (suc n) size z = refl
 
-module _ (c : Settings) (p : Packet) (payload out : List ℕ) (n : ℕ) (e : n ≡ first (laterRows c p (length payload) (length out))) where
-  pub refused : (n ≡ 0 → ⊥) → Refused (record { number = n }) ≡ laterPacket c p (length payload) (length out)
-  unfolding laterPacket
-  refused z = rw (← e) (answer-refused n (sizeOf p) z)
+-- 3 and 12 are not the case where no number is given
+both-clear : (x y z : Bool) (f : ℕ) → pick x 3 (pick y 5 (pick (not (eqb f 0)) f (pick z 12 0))) ≡ 0 → (x ≡ false) × (z ≡ false)
+both-clear true y z f e = absurd (omega (arith, e))
+both-clear false true z f e = absurd (omega (arith, e))
+both-clear false false true zero e = absurd (omega (arith, e))
+both-clear false false false zero e = (refl, refl)
+both-clear false false z (suc f) e = absurd (omega (arith, rw (ne-eqb (suc f) 0 (λ q. omega arith)) at e))
 
-  pub refused-out : (n ≡ 0 → ⊥) → out ≡ laterOut c p payload out
-  unfolding laterOut
+module _ (mps : ℕ) (h : Head) (payload out : List ℕ) (n : ℕ) (e : n ≡ first (headRows mps h (length payload) (length out))) where
+  pub refused : (n ≡ 0 → ⊥) → Refused (record { number = n }) ≡ headAnswer mps h (length payload) (length out)
+  unfolding headAnswer
+  refused z = rw (← e) (answer-refused n (wholeSize h) z)
+
+  pub refused-out : (n ≡ 0 → ⊥) → out ≡ headOut mps h payload out
+  unfolding headOut
   refused-out z = rw (← (refused z))
 
-  pub written : (s : ℕ) → n ≡ 0 → s ≡ sizeOf p → Written s ≡ laterPacket c p (length payload) (length out)
-  unfolding laterPacket
+  pub written : (s : ℕ) → n ≡ 0 → s ≡ wholeSize h → Written s ≡ headAnswer mps h (length payload) (length out)
+  unfolding headAnswer
   written s z k = rw (← e, z, k)
 
-  pub written-out : (last : List ℕ) → n ≡ 0 → last ≡ overFront (bytesOf p payload) out → last ≡ laterOut c p payload out
-  unfolding laterOut
-  written-out last z k = rw (← (written (sizeOf p) z refl)) k
+  pub written-out : (last : List ℕ) → n ≡ 0 → last ≡ overFront (headBytes h ++ (payload ++ headDigest h)) out → last ≡ headOut mps h payload out
+  unfolding headOut
+  written-out last z k = rw (← (written (wholeSize h) z refl)) k
 
-  pub written-room : n ≡ 0 → length (bytesOf p payload) ≤ length out
+  pub written-room : n ≡ 0 → length (headBytes h ++ (payload ++ headDigest h)) ≤ length out
+  unfolding first
   written-room z =
-      let size = dataBytes (typeOf p) (accessOf p .length) in
-      let (d, (_, (_, (_, (_, (r, _)))))) = first-none (laterRows c p (length payload) (length out)) refl (sym e ∙ z) in
-      omega (arith, size-of-bytes p payload (eqb-true (length payload) size (not-false (eqb (length payload) size) d)), ltb-false (length out) (sizeOf p) r)
+      let (d, r) = both-clear (not (eqb (length payload) (dataSize h))) (ltb mps (dataSize h)) (ltb (length out) (wholeSize h)) (h .fault) (sym e ∙ z) in
+      let m = eqb-true (length payload) (dataSize h) (not-false (eqb (length payload) (dataSize h)) d) in
+      omega (arith, m, ltb-false (length out) (wholeSize h) r, whole-length h payload)
+
+-- ---- the head of a packet
+
+fault-first : (a b c : Bool) (m : ℕ)
+    → pick (not (eqb (pick a 6 (pick b 7 (pick c 8 0))) 0)) (pick a 6 (pick b 7 (pick c 8 0))) m ≡ pick a 6 (pick b 7 (pick c 8 m))
+fault-first true b c m = refl
+fault-first false true c m = refl
+fault-first false false true m = refl
+fault-first false false false m = refl
+
+pub head-law : (p : Packet) (t : PacketType) (a : Access) (f : Family) (r m : ℕ) (w : Words) → t ≡ typeOf p → a ≡ accessOf p → f ≡ familyOf t
+    → r ≡ routingIn (p .route) (p .kind) → m ≡ first (faultRows f a (p .«traffic_class») (p .attributes) 0)
+    → wordBytes w ≡ padded 12 (ownBytes (p .route) (p .kind))
+    → IsHead (record {
+      «packet_type» = t;
+      routing = r;
+      fault = m;
+      words = w;
+      «traffic_class» = p .«traffic_class»;
+      attributes = p .attributes;
+      poisoned = p .poisoned;
+      «has_digest» = p .«has_digest»;
+      digest = p .digest;
+      length = a .length;
+    }) p
+head-law p t a f r m w et ea ef er em ew = record {
+  type-is = et;
+  routing-is = er;
+  fault-is = em ∙ rw (ea, ef, et);
+  words-are = ew;
+  class-is = refl;
+  attributes-are = refl;
+  poisoned-is = refl;
+  digest-told = refl;
+  digest-is = refl;
+  length-is = rw ea;
+}
+
+-- the rows by their numbers: data, fault, whole size
+abbrev numbersFirst : ℕ → ℕ → ℕ → ℕ → ℕ → ℕ → ℕ
+numbersFirst mps n room d f s = pick (not (eqb n d)) 3 (pick (ltb mps d) 5 (pick (not (eqb f 0)) f (pick (ltb room s) 12 0)))
+
+module _ (h : Head) (p : Packet) (i : IsHead h p) where
+  front-same : headFront h ≡ frontBytes p
+  unfolding frontBytes
+  front-same = rw (i .type-is, i .routing-is, routing-low (p .route) (p .kind), i .class-is, i .attributes-are, i .poisoned-is, i .digest-told, i .length-is)
+
+  size-same : headSize h ≡ 4 * headerDw (typeOf p)
+  size-same = rw (i .type-is) (three-or-four p)
+
+  bytes-same : headBytes h ≡ headerOf p
+  bytes-same =
+      ap (λ (n : ℕ). take n (headFront h ++ wordBytes (h .words))) (size-same ∙ sym (header-length p))
+      ∙ ap (λ (l : List ℕ). take (length (headerOf p)) (l ++ wordBytes (h .words))) front-same
+      ∙ ap (λ (l : List ℕ). take (length (headerOf p)) (frontBytes p ++ l)) (i .words-are)
+      ∙ header-front p
+
+  digest-same : headDigest h ≡ digestOf p
+  unfolding digestOf
+  digest-same = rw (i .digest-told, i .digest-is)
+
+  whole-same : wholeSize h ≡ sizeOf p
+  unfolding sizeOf
+  whole-same = rw (size-same, i .type-is, i .length-is, i .digest-told)
+
+  data-same : dataSize h ≡ dataBytes (typeOf p) (accessOf p .length)
+  data-same = rw (i .type-is, i .length-is)
+
+  rows-same : (c : Settings) (n room : ℕ) → first (headRows (c .mps) h n room) ≡ first (laterRows c p n room)
+  unfolding first
+  rows-same c n room =
+      let f = familyOf (typeOf p) in
+      let a = accessOf p in
+      let d = dataBytes (typeOf p) (a .length) in
+      ap (λ (x : ℕ). numbersFirst (c .mps) n room x (h .fault) (wholeSize h)) data-same
+      ∙ ap (λ (x : ℕ). numbersFirst (c .mps) n room d x (wholeSize h)) (i .fault-is)
+      ∙ ap (λ (x : ℕ). numbersFirst (c .mps) n room d (first (faultRows f a (p .«traffic_class») (p .attributes) 0)) x) whole-same
+      ∙ ap (λ (m : ℕ). pick (not (eqb n d)) 3 (pick (ltb (c .mps) d) 5 m))
+      (fault-first (plainBad f a (p .«traffic_class») (p .attributes) 0) (enablesBad f a) (pageBad f a) (pick (ltb room (sizeOf p)) 12 0))
+
+  -- where no early row holds, what is answered and written is the packet's
+  module _ (c : Settings) (n : ℕ) (e : n ≡ first (earlyRows c p)) (z : n ≡ 0) where
+    answer-same : (k room : ℕ) → headAnswer (c .mps) h k room ≡ writePacket c p k room
+    unfolding headAnswer writePacket
+    answer-same k room =
+        rw (rows-same c k room, whole-same)
+        (ap (λ (m : ℕ). writeAnswer m (sizeOf p)) (none-of (earlyRows c p) (laterRows c p k room) n (first (laterRows c p k room)) refl e z refl))
+
+    pub head-answer : (k room : ℕ) (x : WriteAnswer) → x ≡ headAnswer (c .mps) h k room → x ≡ writePacket c p k room
+    head-answer k room x q = q ∙ answer-same k room
+
+    pub head-out : (payload out last : List ℕ) → last ≡ headOut (c .mps) h payload out → last ≡ writeOut c p payload out
+    unfolding headOut writeOut bytesOf
+    head-out payload out last q = q ∙ rw (answer-same (length payload) (length out), bytes-same, digest-same)
 
 -- ---- with the early rows
 
@@ -137,15 +262,3 @@ module _ (c : Settings) (p : Packet) (n : ℕ) (e : n ≡ first (earlyRows c p))
   pub early-out : (payload out : List ℕ) → (n ≡ 0 → ⊥) → out ≡ writeOut c p payload out
   unfolding writeOut
   early-out payload out z = rw (← early-refused (length payload) (length out) z)
-
-  pub later-same : (k room : ℕ) → n ≡ 0 → laterPacket c p k room ≡ writePacket c p k room
-  unfolding laterPacket writePacket
-  later-same k room z =
-      ap (λ (m : ℕ). writeAnswer m (sizeOf p)) (none-of (earlyRows c p) (laterRows c p k room) n (first (laterRows c p k room)) refl e z refl)
-
-  pub later-answer : (k room : ℕ) (x : WriteAnswer) → n ≡ 0 → x ≡ laterPacket c p k room → x ≡ writePacket c p k room
-  later-answer k room x z q = q ∙ later-same k room z
-
-  pub later-out : (payload out last : List ℕ) → n ≡ 0 → last ≡ laterOut c p payload out → last ≡ writeOut c p payload out
-  unfolding laterOut writeOut
-  later-out payload out last z q = rw (← later-same (length payload) (length out) z) q

@@ -1,4 +1,5 @@
 pub mod Layout
+pub mod Head
 pub mod Padded
 pub mod Write
 pub mod Cases

@@ -40,10 +40,6 @@ writeAnswer (suc n) size = Refused (record { number = suc n })
 unfoldable pub writePacket : Settings → Packet → ℕ → ℕ → WriteAnswer
 writePacket c p n room = writeAnswer (first (writeRows c p n room)) (sizeOf p)
 
--- the same where no early row holds
-unfoldable pub laterPacket : Settings → Packet → ℕ → ℕ → WriteAnswer
-laterPacket c p n room = writeAnswer (first (laterRows c p n room)) (sizeOf p)
-
 -- the number of an answer; 0 for written
 abbrev pub numberOf : WriteAnswer → ℕ
 numberOf (Written n) = 0
@@ -60,6 +56,3 @@ outAfter (Refused r) xs out = out
 -- the output afterwards: "on success output beyond the packet is unchanged"; after a refusal all of it is
 unfoldable pub writeOut : Settings → Packet → List ℕ → List ℕ → List ℕ
 writeOut c p payload out = outAfter (writePacket c p (length payload) (length out)) (bytesOf p payload) out
-
-unfoldable pub laterOut : Settings → Packet → List ℕ → List ℕ → List ℕ
-laterOut c p payload out = outAfter (laterPacket c p (length payload) (length out)) (bytesOf p payload) out

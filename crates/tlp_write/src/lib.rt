@@ -1,8 +1,11 @@
 // Writing packets.
-mod layout;
+pub mod head;
 mod put;
+pub mod words;
 
-use tlp::content::content_number;
+use crate::head::Head;
+use crate::head::front_word;
+use crate::head::head_of;
 use tlp::packet::Packet;
 use tlp::packet::access_of;
 use tlp::packet::type_of;
@@ -16,26 +19,44 @@ use tlp::size::digest_bytes;
 use tlp_given::given_number;
 ghost use mathlib.Core.Path.{_≡_};
 ghost use mathlib.Core.List.{_++_};
-ghost use Prim.Native.Nat.{_+_, _*_, _≤_};
+ghost use Prim.Native.Nat.{_+_, _≤_};
+ghost use lib.Dec.{eqb};
 ghost use lib.ListN.{length};
+ghost use Rattle.bits.specs.Choice.{pick};
+ghost use Rattle.bits.specs.Put.{put};
 ghost use Rattle.tlp.specs.Rows.{first};
 ghost use Rattle.tlp.specs.PacketTypes.{headerDw};
-ghost use Rattle.tlp.specs.Packets.{typeOf, accessOf};
 ghost use Rattle.tlp.specs.Sizes.{dataBytes, digestBytes};
-ghost use Rattle.tlp_write.specs.Layout.{headerOf, bytesOf, sizeOf};
-ghost use Rattle.bits.specs.Put.{put};
-ghost use Rattle.tlp_write.specs.Write.{laterRows, earlyRows, laterPacket, laterOut, writePacket, writeOut, overFront};
+ghost use Rattle.tlp_write.specs.Layout.{sizeOf};
+ghost use Rattle.tlp_write.specs.Head.{headBytes, headDigest, dataSize, wholeSize, headRows, headAnswer, headOut};
+ghost use Rattle.tlp_write.specs.Write.{earlyRows, writePacket, writeOut, overFront};
 
 pub enum WriteAnswer {
     Written(usize),
     Refused(Refusal),
 }
 
-// The size of a packet of type t and length n.
-fn size_as(t: PacketType, n: u32, digest: bool) -> usize
-    ensures { λ r. ⌜ r ≡ 4 * headerDw t + dataBytes t n + digestBytes digest ⌝ }
+fn is_wide(t: PacketType) -> bool
+    ensures { λ r. ⌜ r ≡ eqb (headerDw t) 4 ⌝ }
 {
-    4 * header_dw(t) + data_bytes(t, n) + digest_bytes(digest)
+    header_dw(t) == 4
+}
+
+fn head_size(t: PacketType) -> usize
+    ensures { λ r. ⌜ (r ≡ pick (eqb (headerDw t) 4) 16 12) × (r ≤ 16) ⌝ }
+{
+    if is_wide(t) {
+        return 16;
+    }
+    12
+}
+
+// Header, data of held bytes and digest.
+fn whole_size(t: PacketType, held: usize, digest: bool) -> usize
+    requires { ⌜ held ≤ 17179869180 ⌝ }
+    ensures { λ r. ⌜ r ≡ pick (eqb (headerDw t) 4) 16 12 + held + digestBytes digest ⌝ }
+{
+    head_size(t) + held + digest_bytes(digest)
 }
 
 // The size of the packet.
@@ -44,7 +65,7 @@ pub fn size_of(p: Packet) -> usize
 {
     let t = type_of(p);
     let a = access_of(p);
-    size_as(t, a.length, p.has_digest)
+    whole_size(t, data_bytes(t, a.length), p.has_digest)
 }
 
 // The first that holds of the rows 11 and, for what is given, 6; 0 where none does.
@@ -57,27 +78,20 @@ fn early_number(settings: Settings, p: Packet) -> u32
     given_number(p)
 }
 
-// The first that holds of the rows after those, for data of held bytes and a payload of n; 0 where none does.
-fn later_number(
-    settings: Settings,
-    p: Packet,
-    t: PacketType,
-    held: usize,
-    size: usize,
-    n: usize,
-    room: usize,
-) -> u32
-    requires { ⌜ t ≡ typeOf p ⌝ }
-    requires { ⌜ held ≡ dataBytes (typeOf p) (accessOf p .length) ⌝ }
-    requires { ⌜ size ≡ sizeOf p ⌝ }
-    ensures { λ r. ⌜ r ≡ first (laterRows settings p n room) ⌝ }
+// The first that holds of the rows 3, 5, the fault and 12, for a payload of n bytes; 0 where none does.
+fn head_number(mps: u32, h: Head, held: usize, size: usize, n: usize, room: usize) -> u32
+    requires { ⌜ held ≡ dataSize h ⌝ }
+    requires { ⌜ size ≡ wholeSize h ⌝ }
+    ensures { λ r. ⌜ r ≡ first (headRows mps h n room) ⌝ }
 {
     if n != held {
         return 3;
     }
-    let content = content_number(settings.mps, t, p, 0);
-    if content != 0 {
-        return content;
+    if (mps as usize) < held {
+        return 5;
+    }
+    if h.fault != 0 {
+        return h.fault;
     }
     if room < size {
         return 12;
@@ -86,41 +100,38 @@ fn later_number(
 }
 
 // Header and payload over the front of the output; returns their size.
-fn put_front(p: Packet, t: PacketType, dw: u32, payload: &[u8], out: &mut [u8]) -> usize
-    requires { ⌜ t ≡ typeOf p ⌝ }
-    requires { ⌜ dw ≡ accessOf p .length ⌝ }
-    requires { ⌜ length (headerOf p) + length (now payload) ≤ length (now out) ⌝ }
-    ensures { λ r. ⌜ (r ≡ length (headerOf p) + length (now (payload .entry))) × (now (out .exit) ≡ put 0 (headerOf p ++ now (payload .entry)) (now (out .entry))) ⌝ }
+fn put_front(h: Head, payload: &[u8], out: &mut [u8]) -> usize
+    requires { ⌜ length (headBytes h ++ now payload) ≤ length (now out) ⌝ }
+    ensures { λ r. ⌜ (r ≡ length (headBytes h ++ now (payload .entry))) × (now (out .exit) ≡ put 0 (headBytes h ++ now (payload .entry)) (now (out .entry))) ⌝ }
 {
-    let n = layout::put_header(p, t, dw, out);
+    let words = h.words;
+    let t = h.packet_type;
+    let n = put::put_words(front_word(h), words, is_wide(t), out);
     put::put_at(n, payload, out)
 }
 
 // Header, payload and digest over the front of the output.
-fn put_packet(p: Packet, t: PacketType, dw: u32, payload: &[u8], out: &mut [u8])
-    requires { ⌜ t ≡ typeOf p ⌝ }
-    requires { ⌜ dw ≡ accessOf p .length ⌝ }
-    requires { ⌜ length (bytesOf p (now payload)) ≤ length (now out) ⌝ }
-    ensures { λ _. ⌜ now (out .exit) ≡ overFront (bytesOf p (now (payload .entry))) (now (out .entry)) ⌝ }
+fn put_packet(h: Head, payload: &[u8], out: &mut [u8])
+    requires { ⌜ length (headBytes h ++ (now payload ++ headDigest h)) ≤ length (now out) ⌝ }
+    ensures { λ _. ⌜ now (out .exit) ≡ overFront (headBytes h ++ (now (payload .entry) ++ headDigest h)) (now (out .entry)) ⌝ }
 {
-    let n = put_front(p, t, dw, payload, out);
-    layout::put_digest(p, n, out);
+    let n = put_front(h, payload, out);
+    put::put_digest(h.has_digest, h.digest, n, out);
 }
 
-// As write, of a packet for which neither 11 nor the first 6 is given: those rows are not looked at.
-pub fn write_later(settings: Settings, p: Packet, payload: &[u8], out: &mut [u8]) -> WriteAnswer
-    ensures { λ r. ⌜ r ≡ laterPacket settings p (length (now (payload .entry))) (length (now (out .entry))) ⌝ }
-    ensures { λ _. ⌜ now (out .exit) ≡ laterOut settings p (now (payload .entry)) (now (out .entry)) ⌝ }
+// The packet that a head stands for, over the front of the output; the rows 11 and, for what is given, 6 are not looked at.
+pub fn write_head(mps: u32, h: Head, payload: &[u8], out: &mut [u8]) -> WriteAnswer
+    ensures { λ r. ⌜ r ≡ headAnswer mps h (length (now (payload .entry))) (length (now (out .entry))) ⌝ }
+    ensures { λ _. ⌜ now (out .exit) ≡ headOut mps h (now (payload .entry)) (now (out .entry)) ⌝ }
 {
-    let t = type_of(p);
-    let a = access_of(p);
-    let held = data_bytes(t, a.length);
-    let size = size_as(t, a.length, p.has_digest);
-    let n = later_number(settings, p, t, held, size, payload.len(), out.len());
+    let t = h.packet_type;
+    let held = data_bytes(t, h.length);
+    let size = whole_size(t, held, h.has_digest);
+    let n = head_number(mps, h, held, size, payload.len(), out.len());
     if n != 0 {
         return WriteAnswer::Refused(Refusal { number: n });
     }
-    put_packet(p, t, a.length, payload, out);
+    put_packet(h, payload, out);
     WriteAnswer::Written(size)
 }
 
@@ -133,5 +144,5 @@ pub fn write(settings: Settings, p: Packet, payload: &[u8], out: &mut [u8]) -> W
     if early != 0 {
         return WriteAnswer::Refused(Refusal { number: early });
     }
-    write_later(settings, p, payload, out)
+    write_head(settings.mps, head_of(p), payload, out)
 }

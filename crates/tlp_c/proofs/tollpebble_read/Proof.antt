@@ -12,14 +12,17 @@ returns c = search read-laws
 returns-2 : tie.Need-returns-2
 returns-2 c = search read-laws
 
+digest-word-requires : tie.Need-digest-word-requires
+digest-word-requires c κs = search needs
+
 byte-at-requires : tie.Need-byte-at-requires
 byte-at-requires c κs = search needs
 
-family-at-requires : tie.Need-family-at-requires
-family-at-requires c κs = search needs
+family-by-type-requires : tie.Need-family-by-type-requires
+family-by-type-requires c κs = search needs
 
 put-record-requires : tie.Need-put-record-requires
-put-record-requires c κs = search (read-family, read-listed, read-room, needs)
+put-record-requires c κs = (search needs, (search read-family, (search read-listed, (search read-room, search needs))))
 
 same-length : tie.Need-same-length
 same-length c = search needs
@@ -34,8 +37,9 @@ tollpebble-read-spec =
     read-number-requires
     returns
     returns-2
+    digest-word-requires
     byte-at-requires
-    family-at-requires
+    family-by-type-requires
     put-record-requires
     same-length
     returns-3)

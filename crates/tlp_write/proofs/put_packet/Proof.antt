@@ -1,10 +1,10 @@
-use Rattle.tlp_write.proofs.WriteLaws.{front-room, packet-room, packet-put}
+use Rattle.tlp_write.proofs.WriteLaws.{packet-front, packet-room, packet-put}
 use borrow.Author.Needs.{needs}
 use Rattle.tlp_write.proofs.put_packet.Statement.{statement}
 use Rattle.tlp_write.proofs.put_packet.Tie as tie
 
 put-front-requires : tie.Need-put-front-requires
-put-front-requires c κs = (search needs, (search needs, search front-room))
+put-front-requires c κs = search packet-front
 
 put-digest-requires : tie.Need-put-digest-requires
 put-digest-requires c κs = search packet-room

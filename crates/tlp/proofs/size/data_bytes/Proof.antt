@@ -3,11 +3,11 @@ use borrow.Author.Needs.{needs}
 use Rattle.tlp.proofs.size.data_bytes.Statement.{statement}
 use Rattle.tlp.proofs.size.data_bytes.Tie as tie
 
+mul-all : tie.Need-mul-all
+mul-all c = search needs
+
 has-data-requires : tie.Need-has-data-requires
 has-data-requires c κs = search needs
-
-mul-result : tie.Need-mul-result
-mul-result c = search needs
 
 returns : tie.Need-returns
 unfolding dataBytes
@@ -18,4 +18,4 @@ unfolding dataBytes
 returns-2 c = cc
 
 pub data-bytes-spec : {M : Type 1} → statement M
-data-bytes-spec = tie.close (tie.spec has-data-requires mul-result returns returns-2)
+data-bytes-spec = tie.close (tie.spec mul-all has-data-requires returns returns-2)

@@ -18,11 +18,14 @@ byte-at-requires c κs = search needs
 byte-at-requires-2 : tie.Need-byte-at-requires-2
 byte-at-requires-2 c κs = search needs
 
-front-part-requires : tie.Need-front-part-requires
-front-part-requires c κs = search needs
+lay-front-requires : tie.Need-lay-front-requires
+lay-front-requires c κs = search needs
+
+same-length : tie.Need-same-length
+same-length c = search needs
 
 returns : tie.Need-returns
-returns c = search message-front-law depth 8
+returns c = search message-front-law
 
 pub message-front-spec : {M : Type 1} → statement M
 message-front-spec =
@@ -33,5 +36,6 @@ message-front-spec =
     message-case-requires
     byte-at-requires
     byte-at-requires-2
-    front-part-requires
+    lay-front-requires
+    same-length
     returns)

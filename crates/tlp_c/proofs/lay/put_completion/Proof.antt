@@ -3,6 +3,9 @@ use borrow.Author.Needs.{needs}
 use Rattle.tlp_c.proofs.lay.put_completion.Statement.{statement}
 use Rattle.tlp_c.proofs.lay.put_completion.Tie as tie
 
+length-given-requires : tie.Need-length-given-requires
+length-given-requires c κs = search family-listed
+
 kind-from-requires : tie.Need-kind-from-requires
 kind-from-requires c κs = (search needs, search family-listed)
 
@@ -12,38 +15,26 @@ all-attributes-requires c κs = search needs
 byte-at-requires : tie.Need-byte-at-requires
 byte-at-requires c κs = search needs
 
-front-part-requires : tie.Need-front-part-requires
-front-part-requires c κs = search needs
-
-digest-word-requires : tie.Need-digest-word-requires
-digest-word-requires c κs = search needs
-
-length-given-requires : tie.Need-length-given-requires
-length-given-requires c κs = search family-listed
-
-sizes-part-requires : tie.Need-sizes-part-requires
-sizes-part-requires c κs = search needs
-
-byte-count-requires : tie.Need-byte-count-requires
-byte-count-requires c κs = search needs
+lay-front-requires : tie.Need-lay-front-requires
+lay-front-requires c κs = search needs
 
 word16-requires : tie.Need-word16-requires
 word16-requires c κs = search needs
 
-count-part-requires : tie.Need-count-part-requires
-count-part-requires c κs = search needs
+cast-lay-value : tie.Need-cast-lay-value
+cast-lay-value c = search needs
 
-word16-requires-2 : tie.Need-word16-requires-2
-word16-requires-2 c κs = search needs
+lay-value-requires : tie.Need-lay-value-requires
+lay-value-requires c κs = search needs
 
-cast-lay-parts : tie.Need-cast-lay-parts
-cast-lay-parts c = search needs
+byte-count-requires : tie.Need-byte-count-requires
+byte-count-requires c κs = search needs
 
-completion-part-requires : tie.Need-completion-part-requires
-completion-part-requires c κs = search needs
+lay-counted-requires : tie.Need-lay-counted-requires
+lay-counted-requires c κs = search needs
 
-lay-parts-requires : tie.Need-lay-parts-requires
-lay-parts-requires c κs = search needs
+lay-status-requires : tie.Need-lay-status-requires
+lay-status-requires c κs = search needs
 
 same-length : tie.Need-same-length
 same-length c = search needs
@@ -55,19 +46,16 @@ pub put-completion-spec : {M : Type 1} → statement M
 put-completion-spec =
     tie.close
     (tie.spec
+    length-given-requires
     kind-from-requires
     all-attributes-requires
     byte-at-requires
-    front-part-requires
-    digest-word-requires
-    length-given-requires
-    sizes-part-requires
-    byte-count-requires
+    lay-front-requires
     word16-requires
-    count-part-requires
-    word16-requires-2
-    cast-lay-parts
-    completion-part-requires
-    lay-parts-requires
+    cast-lay-value
+    lay-value-requires
+    byte-count-requires
+    lay-counted-requires
+    lay-status-requires
     same-length
     returns)

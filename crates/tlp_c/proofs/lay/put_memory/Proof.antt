@@ -3,6 +3,9 @@ use borrow.Author.Needs.{needs}
 use Rattle.tlp_c.proofs.lay.put_memory.Statement.{statement}
 use Rattle.tlp_c.proofs.lay.put_memory.Tie as tie
 
+length-at-requires : tie.Need-length-at-requires
+length-at-requires c κs = search needs
+
 kind-from-requires : tie.Need-kind-from-requires
 kind-from-requires c κs = (search needs, search family-listed)
 
@@ -12,26 +15,20 @@ all-attributes-requires c κs = search needs
 byte-at-requires : tie.Need-byte-at-requires
 byte-at-requires c κs = search needs
 
-front-part-requires : tie.Need-front-part-requires
-front-part-requires c κs = search needs
+lay-front-requires : tie.Need-lay-front-requires
+lay-front-requires c κs = search needs
 
-digest-word-requires : tie.Need-digest-word-requires
-digest-word-requires c κs = search needs
+lay-address-requires : tie.Need-lay-address-requires
+lay-address-requires c κs = search needs
 
-length-at-requires : tie.Need-length-at-requires
-length-at-requires c κs = search needs
+lay-requires : tie.Need-lay-requires
+lay-requires c κs = search needs
 
-sizes-part-requires : tie.Need-sizes-part-requires
-sizes-part-requires c κs = search needs
+lay-request-requires : tie.Need-lay-request-requires
+lay-request-requires c κs = search needs
 
-memory-address-requires : tie.Need-memory-address-requires
-memory-address-requires c κs = search needs
-
-request-part-requires : tie.Need-request-part-requires
-request-part-requires c κs = search needs
-
-lay-parts-requires : tie.Need-lay-parts-requires
-lay-parts-requires c κs = search needs
+lay-requires-2 : tie.Need-lay-requires-2
+lay-requires-2 c κs = search needs
 
 same-length : tie.Need-same-length
 same-length c = search needs
@@ -43,15 +40,14 @@ pub put-memory-spec : {M : Type 1} → statement M
 put-memory-spec =
     tie.close
     (tie.spec
+    length-at-requires
     kind-from-requires
     all-attributes-requires
     byte-at-requires
-    front-part-requires
-    digest-word-requires
-    length-at-requires
-    sizes-part-requires
-    memory-address-requires
-    request-part-requires
-    lay-parts-requires
+    lay-front-requires
+    lay-address-requires
+    lay-requires
+    lay-request-requires
+    lay-requires-2
     same-length
     returns)

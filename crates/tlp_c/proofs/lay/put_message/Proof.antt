@@ -3,23 +3,11 @@ use borrow.Author.Needs.{needs}
 use Rattle.tlp_c.proofs.lay.put_message.Statement.{statement}
 use Rattle.tlp_c.proofs.lay.put_message.Tie as tie
 
-message-front-requires : tie.Need-message-front-requires
-message-front-requires c κs = search family-listed
-
-digest-word-requires : tie.Need-digest-word-requires
-digest-word-requires c κs = search needs
-
 length-given-requires : tie.Need-length-given-requires
 length-given-requires c κs = search family-listed
 
-sizes-part-requires : tie.Need-sizes-part-requires
-sizes-part-requires c κs = search needs
-
-word16-requires : tie.Need-word16-requires
-word16-requires c κs = search needs
-
-count-part-requires : tie.Need-count-part-requires
-count-part-requires c κs = search needs
+message-front-requires : tie.Need-message-front-requires
+message-front-requires c κs = (search family-listed, search needs)
 
 message-value-requires : tie.Need-message-value-requires
 message-value-requires c κs = search needs
@@ -27,8 +15,14 @@ message-value-requires c κs = search needs
 whole64-requires : tie.Need-whole64-requires
 whole64-requires c κs = search needs
 
-lay-parts-requires : tie.Need-lay-parts-requires
-lay-parts-requires c κs = search needs
+lay-value-requires : tie.Need-lay-value-requires
+lay-value-requires c κs = search needs
+
+lay-counted-requires : tie.Need-lay-counted-requires
+lay-counted-requires c κs = search needs
+
+lay-requires : tie.Need-lay-requires
+lay-requires c κs = search needs
 
 same-length : tie.Need-same-length
 same-length c = search needs
@@ -40,14 +34,12 @@ pub put-message-spec : {M : Type 1} → statement M
 put-message-spec =
     tie.close
     (tie.spec
-    message-front-requires
-    digest-word-requires
     length-given-requires
-    sizes-part-requires
-    word16-requires
-    count-part-requires
+    message-front-requires
     message-value-requires
     whole64-requires
-    lay-parts-requires
+    lay-value-requires
+    lay-counted-requires
+    lay-requires
     same-length
     returns)

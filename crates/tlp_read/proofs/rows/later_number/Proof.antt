@@ -6,11 +6,8 @@ use Rattle.tlp_read.proofs.rows.later_number.Tie as tie
 byte-at-requires : tie.Need-byte-at-requires
 byte-at-requires c κs = search needs
 
-family-at-requires : tie.Need-family-at-requires
-family-at-requires c κs = search needs
-
-is-unlisted-requires : tie.Need-is-unlisted-requires
-is-unlisted-requires c κs = search needs
+is-listed-requires : tie.Need-is-listed-requires
+is-listed-requires c κs = search needs
 
 returns : tie.Need-returns
 returns c = search later-laws
@@ -30,6 +27,9 @@ size-called-requires c κs = search needs
 returns-3 : tie.Need-returns-3
 returns-3 c = search later-laws
 
+family-by-type-requires : tie.Need-family-by-type-requires
+family-by-type-requires c κs = search needs
+
 judge-number-requires : tie.Need-judge-number-requires
 judge-number-requires c κs = search (later-family, later-known, later-room, needs)
 
@@ -41,13 +41,13 @@ later-number-spec =
     tie.close
     (tie.spec
     byte-at-requires
-    family-at-requires
-    is-unlisted-requires
+    is-listed-requires
     returns
     header-size-requires
     returns-2
     data-size-requires
     size-called-requires
     returns-3
+    family-by-type-requires
     judge-number-requires
     returns-4)

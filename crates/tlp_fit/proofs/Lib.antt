@@ -1,5 +1,0 @@
-pub mod Chains
-pub mod Kept
-pub mod Writable
-pub mod Families
-pub mod Returns

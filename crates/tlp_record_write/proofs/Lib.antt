@@ -1,0 +1,7 @@
+pub mod Chains
+pub mod Kept
+pub mod Writable
+pub mod Families
+pub mod Returns
+pub mod OwnLaws
+pub mod RecordWriteLaws

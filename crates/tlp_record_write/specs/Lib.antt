@@ -1,0 +1,5 @@
+pub mod Fit
+pub mod Shared
+pub mod Kinds
+pub mod Own
+pub mod RecordWrite
