@@ -69,14 +69,17 @@ module _ (m a b : ℕ) where
       let z : (a + b) % m ≡ a + b = rw (h, mod-zero (a + b)) in
       rw (z, ne-eqb (a + b) 0 (λ e. k (omega arith)))
 
-pub remainders-fit : (a b m : ℕ) → (m ≡ 0 → ⊥) → m < 2 ^ 32 → a % m + b % m < 2 ^ 64
+pub remainders-fit : (a b m : ℕ) → 0 < m → m < 2 ^ 32 → a % m + b % m < 2 ^ 64
 remainders-fit a b m h k =
-    let z : 0 < m = omega (arith, h) in
-    let x = mod-lt a z in
-    let y = mod-lt b z in
+    let x = mod-lt a h in
+    let y = mod-lt b h in
     omega arith
 
-pub ruleset boundary-laws = (boundary-mod, boundary-zero, boundary-none)
+-- a listed boundary, by its number
+pub boundary-at : (m n a b : ℕ) (r : Bool) → m ≡ n → r ≡ eqb ((a + b) % n) 0 → r ≡ eqb ((a + b) % m) 0
+boundary-at m n a b r h e = rw h e
+
+pub ruleset boundary-laws = (boundary-at, boundary-zero, boundary-none)
 
 module _ (rcb : ℕ) (a : Access) (p n r : ℕ) (e : r ≡ a .length - p) where
   pub cut-empty : n < 1 → false ≡ cutAllowed rcb a p n

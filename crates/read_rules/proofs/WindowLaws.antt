@@ -2,12 +2,23 @@
 use Prim.Native.Nat.{ℕ, _+_, _-_, _*_, _%_, _≤_, _<_}
 use mathlib.Core.Path.{_≡_, refl, sym, _∙_}
 use mathlib.Core.Logic.{_⊎_, inl, inr}
-use mathlib.Core.Bool.{Bool, true, false, _||_, _&&_, not}
+use mathlib.Core.Bool.{Bool, true, false, _||_, _&&_, not, Bool·not-not}
 use native.Mathlib.Omega.{arith}
 use lib.Dec.{eqb, leb, ltb}
-use borrow.Author.Tests.{lt-ltb, le-ltb, le-leb, lt-leb, eq-eqb, ne-eqb, ltb-true, ltb-false}
+use borrow.Author.Tests.{lt-ltb, le-ltb, le-leb, lt-leb, eq-eqb, ne-eqb, leb-true, leb-false, ltb-true, ltb-false}
 use Rattle.read_rules.specs.Windows.{storeLimit, windowEnd, placeBad, sharesByte, holdsWindow}
 use Rattle.read_rules.specs.declared.request.ReadRequest.{ReadRequest}
+
+-- the two tests of an order deny each other
+pub below : (a b : ℕ) → ltb a b ≡ not (leb b a)
+below a b = go (leb b a) refl
+  where
+    go : (x : Bool) → leb b a ≡ x → ltb a b ≡ not x
+    go true e = le-ltb a b (leb-true b a e)
+    go false e = lt-ltb a b (leb-false b a e)
+
+not-below : (a b : ℕ) → not (ltb a b) ≡ leb b a
+not-below a b = rw below (Bool·not-not (leb b a))
 
 module _ (place from size : ℕ) where
   pub before-start : place < from → true ≡ ltb place (from + size)
@@ -21,6 +32,9 @@ module _ (place from size : ℕ) where
       go false e = sym (le-ltb place (from + size) (omega (arith, ltb-false (place - from) size e)))
 
 pub ruleset before-laws = (before-start, before-rest)
+
+pub over-size : (m n k : ℕ) → n ≡ k → ltb m n ≡ ltb m k
+over-size m n k e = rw e
 
 module _ (q : ReadRequest) (room : ℕ) where
   pub place-over : storeLimit < room → true ≡ placeBad q room
@@ -39,16 +53,9 @@ module _ (q : ReadRequest) (room : ℕ) where
   unfolding holdsWindow
   holds-over h = rw (lt-leb room storeLimit h)
 
-  not-before : (a b : ℕ) → not (ltb a b) ≡ leb b a
-  not-before a b = go (ltb a b) refl
-    where
-      go : (x : Bool) → ltb a b ≡ x → not x ≡ leb b a
-      go true e = sym (lt-leb b a (ltb-true a b e))
-      go false e = sym (le-leb b a (ltb-false a b e))
-
   pub holds-within : (w : ℕ) (r : Bool) → room ≤ storeLimit → w ≡ 4 * q .access .length → r ≡ ltb room (q .start + w) → not r ≡ holdsWindow q room
   unfolding holdsWindow
-  holds-within w r h e f = rw (le-leb room storeLimit h, ← e, f) (not-before room (q .start + w))
+  holds-within w r h e f = rw (le-leb room storeLimit h, ← e, f) (not-below room (q .start + w))
 
 pub ruleset place-laws = (place-over, place-off, place-past)
 

@@ -7,7 +7,7 @@ use byte_enables::trail_of;
 use tlp::settings::Settings;
 ghost use mathlib.Core.Path.{_≡_};
 ghost use mathlib.Core.Bool.{_||_, _&&_};
-ghost use Prim.Native.Nat.{_+_, _*_, _%_, _<_, _-_};
+ghost use Prim.Native.Nat.{_+_, _*_, _%_, _^_, _<_, _-_};
 ghost use lib.Dec.{eqb, leb};
 ghost use Rattle.bits.specs.Choice.{pick};
 ghost use Rattle.byte_enables.specs.Enables.{off};
@@ -58,18 +58,31 @@ pub fn lower_address_at(a: Access, p: u32) -> u64
     (a.address % 128 + 4 * p as u64 + off_at(a, p) as u64) % 128
 }
 
-// Whether address + bytes is a multiple of the read completion boundary.
+// Whether address + bytes is a multiple of m.
+fn on_multiple(m: u64, address: u64, bytes: u64) -> bool
+    requires { ⌜ (0 < m) × (m < 2 ^ 32) ⌝ }
+    ensures { λ r. ⌜ r ≡ eqb ((address + bytes) % m) 0 ⌝ }
+{
+    (address % m + bytes % m) % m == 0
+}
+
+// Whether address + bytes is a multiple of the read completion boundary. The listed ones are powers of two, which are not divided by.
 fn on_boundary(rcb: u32, address: u64, bytes: u64) -> bool
     ensures { λ r. ⌜ r ≡ eqb ((address + bytes) % rcb) 0 ⌝ }
 {
-    let m = rcb as u64;
-    if m == 0 {
+    if rcb == 64 {
+        return on_multiple(64, address, bytes);
+    }
+    if rcb == 128 {
+        return on_multiple(128, address, bytes);
+    }
+    if rcb == 0 {
         if address == 0 {
             return bytes == 0;
         }
         return false;
     }
-    (address % m + bytes % m) % m == 0
+    on_multiple(rcb as u64, address, bytes)
 }
 
 // Whether a piece of n doublewords may stand at doubleword p.

@@ -8,6 +8,8 @@ use tlp::packet::Request;
 use tlp::packet::Route;
 use tlp_given::outside_of;
 ghost use mathlib.Core.Path.{_≡_};
+ghost use mathlib.Core.Bool.{_||_};
+ghost use lib.Dec.{leb};
 ghost use Rattle.tlp.specs.Rows.{first};
 ghost use Rattle.read_rules.specs.Requests.{requestPacket, givenBad, requestRows};
 
@@ -41,9 +43,9 @@ pub fn request_packet(requester: u16, tag: u8, q: ReadRequest) -> Packet
     }
 }
 
-// The writer's first place for 6.
-fn given_bad(q: ReadRequest) -> bool
-    ensures { λ r. ⌜ r ≡ givenBad q ⌝ }
+// Whether a number other than address and length exceeds its field.
+pub(crate) fn fields_over(q: ReadRequest) -> bool
+    ensures { λ r. ⌜ r ≡ (leb 8 (q .«traffic_class») || (leb 8 (q .attributes) || (leb 16 (q .access .first) || leb 16 (q .access .last)))) ⌝ }
 {
     let a = q.access;
     if 8 <= q.traffic_class {
@@ -52,13 +54,21 @@ fn given_bad(q: ReadRequest) -> bool
     if 8 <= q.attributes {
         return true;
     }
-    if outside_of(1024, a.length) {
-        return true;
-    }
     if 16 <= a.first {
         return true;
     }
-    if 16 <= a.last {
+    16 <= a.last
+}
+
+// The writer's first place for 6.
+fn given_bad(q: ReadRequest) -> bool
+    ensures { λ r. ⌜ r ≡ givenBad q ⌝ }
+{
+    let a = q.access;
+    if fields_over(q) {
+        return true;
+    }
+    if outside_of(1024, a.length) {
         return true;
     }
     a.address % 4 != 0

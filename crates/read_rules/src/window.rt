@@ -25,7 +25,14 @@ fn before_end(place: u64, from: u64, size: u64) -> bool
     place - from < size
 }
 
-fn place_bad(q: ReadRequest, room: u64) -> bool
+// Whether 4 x length is over MRRS.
+pub(crate) fn over_request_size(s: Settings, q: ReadRequest) -> bool
+    ensures { λ r. ⌜ r ≡ ltb (s .mrrs) (4 * q .access .length) ⌝ }
+{
+    (s.mrrs as u64) < window_size(q)
+}
+
+pub(crate) fn place_bad(q: ReadRequest, room: u64) -> bool
     ensures { λ r. ⌜ r ≡ placeBad q room ⌝ }
 {
     if 65536 < room {
@@ -41,7 +48,7 @@ fn place_bad(q: ReadRequest, room: u64) -> bool
 pub fn place_number(s: Settings, q: ReadRequest, room: u64) -> u32
     ensures { λ n. ⌜ n ≡ first (placeRows s q room) ⌝ }
 {
-    if (s.mrrs as u64) < window_size(q) {
+    if over_request_size(s, q) {
         return 22;
     }
     if place_bad(q, room) {

@@ -6,7 +6,7 @@ use read_rules::validity::read_valid;
 use read_rules::window::shares_byte;
 use tlp::settings::Settings;
 ghost use mathlib.Core.Path.{_≡_};
-ghost use Rattle.scan.specs.Scans.{allOf, anyOf, sumOf};
+ghost use Rattle.scan.specs.Scans.{anyOf, sumOf};
 ghost use Rattle.read_slots.specs.Slots.{isOpen, validSlot, sharesWith, owedInSlot};
 
 pub enum State {
@@ -31,7 +31,8 @@ pub fn is_open(x: State) -> bool
     }
 }
 
-fn slot_valid(s: Settings, x: Slot) -> bool
+// Whether open would accept the read that a slot holds, where it holds one.
+pub fn slot_valid(s: Settings, x: Slot) -> bool
     ensures { λ r. ⌜ r ≡ validSlot s x ⌝ }
 {
     let state = x.state;
@@ -59,21 +60,6 @@ fn owed_in_slot(x: Slot) -> u32
         State::Free => 0,
         State::Open(r) => owed_of(r),
     }
-}
-
-// Whether open would accept every read that is open.
-pub fn slots_valid(s: Settings, slots: [Slot; CAPACITY]) -> bool
-    ensures { λ r. ⌜ r ≡ allOf (validSlot s) slots ⌝ }
-{
-    let mut i: usize = 0;
-    while i < CAPACITY {
-        let x = slots[i];
-        if !slot_valid(s, x) {
-            return false;
-        }
-        i += 1;
-    }
-    true
 }
 
 // Whether the window shares a byte with an open read's, tags ascending, up to the first that does.

@@ -1,2 +1,3 @@
+mod Wholes
 mod Returns
 pub mod StoreLaws

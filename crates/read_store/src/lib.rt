@@ -4,7 +4,8 @@ use byte_enables::Access;
 use byte_enables::enabled_at;
 use read_rules::request::ReadRequest;
 ghost use mathlib.Core.Path.{_≡_};
-ghost use Prim.Native.Nat.{_+_, _*_, min};
+ghost use mathlib.Core.Bool.{true};
+ghost use Prim.Native.Nat.{ℕ, _+_, _-_, _*_, _%_, _^_, _<_, _≤_};
 ghost use Rattle.bits.specs.Choice.{pick};
 ghost use Rattle.byte_enables.specs.Enables.{enabled};
 ghost use Rattle.scan.specs.Merges.{merged};
@@ -19,18 +20,85 @@ fn chosen(first: bool, a: u8, b: u8) -> u8
     b
 }
 
-// Lays the enabled bytes of a payload, whose first doubleword is the read's doubleword p, over the part of the store that is lent.
-pub fn store_enabled(a: Access, p: u32, payload: &[u8], part: &mut [u8])
-    ensures { λ _. ⌜ now (part .exit) ≡ merged (enabled a) (4 * p) (now (payload .entry)) (now (part .entry)) ⌝ }
+// Lays the enabled bytes of a payload, whose first byte is the read's byte k, over the part that is lent, with a test for each byte.
+fn store_tested(a: Access, k: u64, payload: &[u8], part: &mut [u8])
+    requires { do ⌜ k + (← ⟦payload.len()⟧) < 2 ^ 64 ⌝ }
+    ensures { λ _. ⌜ now (part .exit) ≡ merged (enabled a) k (now (payload .entry)) (now (part .entry)) ⌝ }
 {
     let mut i: usize = 0;
     while i < payload.len() {
         if part.len() <= i {
             return;
         }
-        part[i] = chosen(enabled_at(a, 4 * p as u64 + i as u64), payload[i], part[i]);
+        part[i] = chosen(enabled_at(a, k + i as u64), payload[i], part[i]);
         i += 1;
     }
+}
+
+// The bytes of a read from whole_from up to whole_to are all enabled: left out is a first or a last doubleword whose enables are not 1111.
+fn whole_from(a: Access) -> u64
+    ensures { λ r. ⌜ (r < 4 → a .first % 16 ≡ 15) ⌝ }
+{
+    if a.first % 16 == 0b1111 {
+        return 0;
+    }
+    4
+}
+
+fn whole_to(a: Access) -> u64
+    ensures { λ r. ⌜ (r ≤ 4 * a .length) × (4 * a .length - 4 < r → a .last % 16 ≡ 15) ⌝ }
+{
+    let all = 4 * a.length as u64;
+    if a.last % 16 == 0b1111 {
+        return all;
+    }
+    if all == 0 {
+        return 0;
+    }
+    all - 4
+}
+
+// How far byte end lies past byte k: 0 where it does not.
+fn past(end: u64, k: u64) -> usize
+    ensures { λ r. ⌜ r ≡ end - k ⌝ }
+{
+    if end <= k {
+        return 0;
+    }
+    (end - k) as usize
+}
+
+// How many of the n bytes from byte k on are known to be enabled, without a test of each.
+fn whole_run(a: Access, k: u64, n: usize) -> usize
+    ensures { λ r. ⌜ (r ≤ n) × ((i : ℕ) → i < r → enabled a (k + i) ≡ true) ⌝ }
+{
+    if k < whole_from(a) {
+        return 0;
+    }
+    lesser(past(whole_to(a), k), n)
+}
+
+// What store_tested does, where the first w bytes are all enabled: one copy of these is many times faster than a test of each.
+fn store_whole(a: Access, k: u64, w: usize, payload: &[u8], part: &mut [u8])
+    requires { do ⌜ (w ≤ (← ⟦payload.len()⟧)) × (w ≤ (← ⟦part.len()⟧)) × (k + (← ⟦payload.len()⟧) < 2 ^ 64) ⌝ }
+    requires { ⌜ ((i : ℕ) → i < w → enabled a (k + i) ≡ true) ⌝ }
+    ensures { λ _. ⌜ now (part .exit) ≡ merged (enabled a) k (now (payload .entry)) (now (part .entry)) ⌝ }
+{
+    bytes::copy(&payload[..w], &mut part[..w]);
+    store_tested(a, k + w as u64, &payload[w..], &mut part[w..]);
+}
+
+// Lays the enabled bytes of a payload, whose first doubleword is the read's doubleword p, over the part of the store that is lent: first
+// the bytes before the run that is enabled whole, then that run and what follows it.
+pub fn store_enabled(a: Access, p: u32, payload: &[u8], part: &mut [u8])
+    ensures { λ _. ⌜ now (part .exit) ≡ merged (enabled a) (4 * p) (now (payload .entry)) (now (part .entry)) ⌝ }
+{
+    let k = 4 * p as u64;
+    let n = lesser(payload.len(), part.len());
+    let h = lesser(past(whole_from(a), k), n);
+    let w = whole_run(a, k + h as u64, n - h);
+    store_tested(a, k, &payload[..h], &mut part[..h]);
+    store_whole(a, k + h as u64, w, &payload[h..], &mut part[h..]);
 }
 
 // Writes the enabled bytes of a payload into the store: the part that starts at window start plus 4p is lent. A start is any number; past the store

@@ -1,27 +1,40 @@
 -- Laws of take, in the words of the returns.
-use Prim.Native.Nat.{ℕ, _+_, _-_, _≤_}
-use mathlib.Core.Path.{_≡_, sym, ap, _∙_}
-use mathlib.Core.Bool.{Bool, true, false, not}
+use Prim.Native.Nat.{ℕ, zero, suc, _+_, _^_, _≤_}
+use mathlib.Core.Path.{_≡_, refl, sym, ap, _∙_}
+use mathlib.Core.Bool.{Bool, true, false, _||_, not, true≢false}
 use mathlib.Core.List.{List}
-use lib.ListN.{length}
-use borrow.Author.Tests.{not-true, not-false}
+use lib.Dec.{eqb, ltb, leb}
+use lib.ListN.{length, drop}
+use borrow.Author.Tests.{le-ltb, leb-true, not-true, not-false}
+use Rattle.bits.specs.Choice.{pick}
+use Rattle.bits.specs.Word.{byte}
+use Rattle.tlp.specs.Rows.{first}
+use Rattle.tlp.specs.PacketTypes.{familyOf, typeAt}
+use Rattle.tlp.specs.Packets.{typeOf}
+use Rattle.tlp.specs.declared.packet_type.PacketType.{PacketType}
+use Rattle.tlp.specs.declared.packet_type.PacketType.the-variants.{MRd32, MRd64, MWr32, MWr64, IORd, IOWr, CfgRd0, CfgWr0, CfgRd1, CfgWr1, Msg, MsgD, Cpl, CplD, Unlisted}
 use Rattle.tlp.specs.declared.packet.Packet.{Packet}
 use Rattle.tlp.specs.declared.refusal.Refusal.{Refusal}
 use Rattle.tlp_read.specs.declared.ReadAnswer.{ReadAnswer}
 use Rattle.tlp_read.specs.declared.ReadAnswer.the-variants.{Accepted, Refused as Unreadable}
-use Rattle.tlp_read.specs.Read.{readPacket, payloadOf}
+use Rattle.tlp_read.specs.Read.{readRows, answerOf, readPacket, payloadOf}
+use Rattle.tlp_read.specs.Fields.{completionAt, addressAt, routeAt, kindAt, packetAt}
 use Rattle.read_rules.specs.declared.validity.Read.{Read}
 use Rattle.read_rules.specs.declared.piece.Piece.{Piece}
-use Rattle.read_rules.specs.Pieces.{pieceOf}
+use Rattle.read_rules.specs.declared.continuation.Origin.{Origin}
+use Rattle.read_rules.specs.Pieces.{ofCompletions, isCompletion, pieceOf}
 use Rattle.read_slots.specs.declared.State.{State}
-use Rattle.read_slots.specs.declared.State.the-variants.{Open}
+use Rattle.read_slots.specs.declared.State.the-variants.{Free, Open}
 use Rattle.reads.specs.declared.table.Table.{Table}
-use Rattle.reads.specs.declared.table.Taking.{Taking}
+use Rattle.reads.specs.declared.table.View.{View}
+use Rattle.reads.specs.declared.take.Outcome.{Outcome}
 use Rattle.read_answers.specs.declared.TakeAnswer.{TakeAnswer}
-use Rattle.read_answers.specs.declared.TakeAnswer.the-variants.{More, Unread, Refused}
-use Rattle.reads.specs.Tables.{stateAt, withState, validTable}
-use Rattle.read_answers.specs.Takes.{readIn, tagOf, packetAnswer}
-use Rattle.reads.specs.TakeCall.{advanced, tableGiven, storeGiven, packetTaking, packetStore, takeCall, takeStore}
+use Rattle.read_answers.specs.declared.TakeAnswer.the-variants.{More, Done, Failed, Poisoned, Unread, Refused}
+use Rattle.reads.specs.Tables.{tagLimit, stateAt, validTable, viewOf, putState}
+use Rattle.reads.proofs.TableLaws.{state-over, put-same, put-there}
+use Rattle.read_answers.specs.Takes.{noRead, readIn, tagOf, pieceRows, outcome, numberOr, packetAnswer}
+use Rattle.read_answers.proofs.TakeLaws.{answer-other}
+use Rattle.reads.specs.TakeCall.{advanced, tableGiven, recordGiven, storeGiven, packetTaking, packetStore, answerTaking, answerStore, packetOutcome, answerOutcome, takeOutcome, packetLaid, answerLaid, takeLaid, takeCall, takeStore}
 
 -- ---- what an answer does to table and store
 
@@ -34,61 +47,174 @@ advance-fits x r n e h = rw e at h
 pub fits-when : (a : TakeAnswer) (m n : ℕ) → (a ≡ More → m ≤ n) → a ≡ More → m ≤ n
 fits-when a m n f e = f e
 
-pub table-more : (a : TakeAnswer) (t t′ : Table) (c : Piece) (x y : State) → a ≡ More → x ≡ stateAt t (c .header .tag) → y ≡ advanced x (c .length) → t′ ≡ withState t (c .header .tag) y → t′ ≡ tableGiven a t c
-table-more a t t′ c x y e f g q = rw (e, ← f, ← g) q
+pub given-more : (a : TakeAnswer) (x y : State) (n : ℕ) → a ≡ More → y ≡ advanced x n → y ≡ recordGiven a x n
+given-more a x y n e q = rw e q
 
-pub table-case : (a v : TakeAnswer) (t t′ : Table) (c : Piece) → a ≡ v → t′ ≡ tableGiven v t c → t′ ≡ tableGiven a t c
-table-case a v t t′ c e q = rw e q
+pub given-case : (a v : TakeAnswer) (x y : State) (n : ℕ) → a ≡ v → y ≡ recordGiven v x n → y ≡ recordGiven a x n
+given-case a v x y n e q = rw e q
 
 pub store-case : (a v : TakeAnswer) (r : Read) (payload store store′ : List ℕ) → a ≡ v → store′ ≡ storeGiven v r payload store → store′ ≡ storeGiven a r payload store
 store-case a v r payload store store′ e q = rw e q
 
-module _ (t : Table) (p : Packet) (c : Piece) (f : c ≡ pieceOf p) (x : State) (g : x ≡ stateAt t (c .header .tag)) (a : TakeAnswer) where
-  of-packet : x ≡ stateAt t (tagOf p)
-  of-packet = g ∙ ap (λ (z : Piece). stateAt t (z .header .tag)) f
+module _ (o : Origin) (x : State) (p : Packet) (a : TakeAnswer) where
+  pub packet-outcome : (room : ℕ) (c : Piece) (y : State) → a ≡ packetAnswer o x p room → c ≡ pieceOf p → y ≡ recordGiven a x (c .length) → record { answer = a; state = y } ≡ packetOutcome o x p room
+  packet-outcome room c y e f q = rw (q, f, e)
 
-  module _ (room : ℕ) (e : a ≡ packetAnswer (t .origin) x p room) where
-    answer-is : packetAnswer (t .origin) (stateAt t (tagOf p)) p room ≡ a
-    answer-is = ap (λ (y : State). packetAnswer (t .origin) y p room) (sym of-packet) ∙ sym e
+  pub packet-laid : (payload store store′ : List ℕ) (r : Read) → a ≡ packetAnswer o x p (length store) → r ≡ readIn x → store′ ≡ storeGiven a r payload store → store′ ≡ packetLaid o x p payload store
+  packet-laid payload store store′ r e k q = rw (← e, ← k) q
 
-    pub packet-taking : (t′ : Table) → t′ ≡ tableGiven a t c → record { table = t′; answer = a } ≡ packetTaking t p room
-    unfolding packetTaking
-    packet-taking t′ q = rw (answer-is, q, f)
+-- ---- what bytes do
 
-  pub packet-store : (payload store store′ : List ℕ) (r : Read) → a ≡ packetAnswer (t .origin) x p (length store) → r ≡ readIn x → store′ ≡ storeGiven a r payload store → store′ ≡ packetStore t p payload store
-  unfolding packetStore
-  packet-store payload store store′ r e k q =
-      let w : readIn (stateAt t (tagOf p)) ≡ r = ap readIn (sym of-packet) ∙ sym k in
-      rw (answer-is (length store) e, w) q
+module _ (v : View) (b : List ℕ) where
+  pub outcome-11 : (room : ℕ) → not (v .valid) ≡ true → record { answer = Refused 11; state = v .state } ≡ takeOutcome v b room
+  unfolding takeOutcome
+  outcome-11 room h = rw (not-true (v .valid) h)
+
+  pub laid-11 : (store : List ℕ) → not (v .valid) ≡ true → store ≡ takeLaid v b store
+  unfolding takeLaid
+  laid-11 store h = rw (not-true (v .valid) h)
+
+  module _ (h : not (v .valid) ≡ false) (a : ReadAnswer) (f : a ≡ readPacket (v .origin .settings) b) where
+    pub outcome-unread : (room : ℕ) (r : Refusal) → a ≡ Unreadable r → record { answer = Unread r; state = v .state } ≡ takeOutcome v b room
+    unfolding takeOutcome
+    outcome-unread room r g = rw (not-false (v .valid) h, ← f, g)
+
+    pub laid-unread : (store : List ℕ) (r : Refusal) → a ≡ Unreadable r → store ≡ takeLaid v b store
+    unfolding takeLaid
+    laid-unread store r g = rw (not-false (v .valid) h, ← f, g)
+
+    pub outcome-read : (room : ℕ) (p : Packet) (y : Outcome) → a ≡ Accepted p → y ≡ packetOutcome (v .origin) (v .state) p room → y ≡ takeOutcome v b room
+    unfolding takeOutcome
+    outcome-read room p y g q = rw (not-false (v .valid) h, ← f, g) q
+
+    pub laid-read : (store : List ℕ) (p : Packet) (d store′ : List ℕ) → a ≡ Accepted p → d ≡ payloadOf p b → store′ ≡ packetLaid (v .origin) (v .state) p d store → store′ ≡ takeLaid v b store
+    unfolding takeLaid
+    laid-read store p d store′ g k q = rw (not-false (v .valid) h, ← f, g, ← k) q
+
+pub ruleset outcome-laws = (outcome-11, outcome-unread, outcome-read)
+
+pub ruleset laid-laws = (laid-11, laid-unread, laid-read)
+
+-- ---- byte 10: a completion's tag; what is no completion is answered 29, whichever record is looked at
+
+-- a memory request is none in either form
+neither : (b : Bool) (x y : PacketType) → ofCompletions (familyOf x) ≡ false → ofCompletions (familyOf y) ≡ false → ofCompletions (familyOf (pick b x y)) ≡ false
+neither true x y h k = h
+neither false x y h k = k
+
+byte-ten : (t : PacketType) (s : List ℕ) → isCompletion (packetAt t s) ≡ true → tagOf (packetAt t s) ≡ byte s 10
+unfolding isCompletion packetAt pieceOf kindAt routeAt typeOf completionAt
+byte-ten MRd32 s h = absurd (true≢false (sym h ∙ neither (ltb (addressAt 4 s) (2 ^ 32)) MRd32 MRd64 refl refl))
+byte-ten MRd64 s h = absurd (true≢false (sym h ∙ neither (ltb (addressAt 8 s) (2 ^ 32)) MRd32 MRd64 refl refl))
+byte-ten MWr32 s h = absurd (true≢false (sym h ∙ neither (ltb (addressAt 4 s) (2 ^ 32)) MWr32 MWr64 refl refl))
+byte-ten MWr64 s h = absurd (true≢false (sym h ∙ neither (ltb (addressAt 8 s) (2 ^ 32)) MWr32 MWr64 refl refl))
+byte-ten IORd s h = absurd (true≢false (sym h))
+byte-ten IOWr s h = absurd (true≢false (sym h))
+byte-ten CfgRd0 s h = absurd (true≢false (sym h))
+byte-ten CfgWr0 s h = absurd (true≢false (sym h))
+byte-ten CfgRd1 s h = absurd (true≢false (sym h))
+byte-ten CfgWr1 s h = absurd (true≢false (sym h))
+byte-ten Msg s h = absurd (true≢false (sym h))
+byte-ten MsgD s h = absurd (true≢false (sym h))
+byte-ten Cpl s h = refl
+byte-ten CplD s h = refl
+byte-ten Unlisted s h = refl
+
+module _ (o : Origin) (p : Packet) (room : ℕ) where
+  other : (x : State) → isCompletion p ≡ false → packetAnswer o x p room ≡ Refused 29
+  other x h = sym (answer-other o x p room (isCompletion p) refl (ap not h))
+
+  -- of a closed tag: b is whether the packet is a completion, c whether its requester ID is the table's
+  abbrev closedAnswer : Bool → Bool → TakeAnswer
+  closedAnswer b c = numberOr (pick (not b) 29 (pick (not c || true) 30 (first (drop 1 (pieceRows o Free (pieceOf p) room))))) (outcome noRead (pieceOf p))
+
+  -- a tag over the limit is not open
+  module _ (t : Table) (tag : ℕ) (over : leb (tagLimit (t .origin .settings)) tag ≡ true) where
+    kept : (x : State) → putState t tag x ≡ t
+    unfolding putState
+    kept x = rw (le-ltb tag (tagLimit (t .origin .settings)) (leb-true (tagLimit (t .origin .settings)) tag over))
+
+    closed : putState t tag (recordGiven (packetAnswer o Free p room) Free (pieceOf p .length)) ≡ tableGiven (packetAnswer o Free p room) t (pieceOf p)
+    unfolding packetAnswer first
+    closed = go (isCompletion p) (eqb (pieceOf p .requester) (o .requester))
+      where
+        go : (b c : Bool) → putState t tag (recordGiven (closedAnswer b c) Free (pieceOf p .length)) ≡ tableGiven (closedAnswer b c) t (pieceOf p)
+        go false c = kept Free
+        go true true = kept Free
+        go true false = kept Free
+
+module _ (t : Table) (p : Packet) (room : ℕ) where
+  -- the record put in is what the table after the answer has
+  put-given : putState t (tagOf p) (recordGiven (packetAnswer (t .origin) (stateAt t (tagOf p)) p room) (stateAt t (tagOf p)) (pieceOf p .length))
+      ≡ tableGiven (packetAnswer (t .origin) (stateAt t (tagOf p)) p room) t (pieceOf p)
+  put-given = go (leb (tagLimit (t .origin .settings)) (tagOf p)) refl
+    where
+      below : leb (tagLimit (t .origin .settings)) (tagOf p) ≡ false → (a : TakeAnswer) → putState t (tagOf p) (recordGiven a (stateAt t (tagOf p)) (pieceOf p .length)) ≡ tableGiven a t (pieceOf p)
+      below h More = put-there t (tagOf p) _ h
+      below h Done = put-there t (tagOf p) _ h
+      below h (Failed s) = put-there t (tagOf p) _ h
+      below h Poisoned = put-there t (tagOf p) _ h
+      below h (Unread r) = put-same t (tagOf p)
+      below h (Refused n) = put-same t (tagOf p)
+
+      go : (b : Bool) → leb (tagLimit (t .origin .settings)) (tagOf p) ≡ b
+          → putState t (tagOf p) (recordGiven (packetAnswer (t .origin) (stateAt t (tagOf p)) p room) (stateAt t (tagOf p)) (pieceOf p .length))
+          ≡ tableGiven (packetAnswer (t .origin) (stateAt t (tagOf p)) p room) t (pieceOf p)
+      go true h = rw (state-over t (tagOf p) h) (closed (t .origin) p room t (tagOf p) h)
+      go false h = below h (packetAnswer (t .origin) (stateAt t (tagOf p)) p room)
 
 -- ---- the whole call
 
-module _ (t : Table) (b : List ℕ) (v : Bool) (e : v ≡ validTable t) where
-  pub take-11 : (room : ℕ) → not v ≡ true → record { table = t; answer = Refused 11 } ≡ takeCall t b room
-  unfolding takeCall
-  take-11 room h = rw (← e, not-true v h)
+module _ (t : Table) (s : List ℕ) where
+  abbrev packet : Packet
+  packet = packetAt (typeAt (byte s 0)) s
 
-  pub take-store-11 : (store : List ℕ) → not v ≡ true → store ≡ takeStore t b store
-  unfolding takeStore
-  take-store-11 store h = rw (← e, not-true v h)
+  abbrev seen : State
+  seen = stateAt t (byte s 10)
 
-  module _ (h : not v ≡ false) (a : ReadAnswer) (f : a ≡ readPacket (t .origin .settings) b) where
-    pub take-unread : (room : ℕ) (r : Refusal) → a ≡ Unreadable r → record { table = t; answer = Unread r } ≡ takeCall t b room
-    unfolding takeCall
-    take-unread room r g = rw (← e, not-false v h, ← f, g)
+  -- b is whether the table is valid, n the reader's number
+  abbrev outcomeFrom : ℕ → Bool → ℕ → Outcome
+  outcomeFrom room b n = pick b (answerOutcome (t .origin) seen (answerOf n packet) room) (record { answer = Refused 11; state = seen })
 
-    pub take-store-unread : (store : List ℕ) (r : Refusal) → a ≡ Unreadable r → store ≡ takeStore t b store
-    unfolding takeStore
-    take-store-unread store r g = rw (← e, not-false v h, ← f, g)
+  packet-done : (room : ℕ) → record { table = putState t (byte s 10) (packetOutcome (t .origin) seen packet room .state); answer = packetAnswer (t .origin) seen packet room } ≡ packetTaking t packet room
+  unfolding packetTaking
+  packet-done room = go (isCompletion packet) refl
+    where
+      go : (b : Bool) → isCompletion packet ≡ b
+          → record { table = putState t (byte s 10) (packetOutcome (t .origin) seen packet room .state); answer = packetAnswer (t .origin) seen packet room } ≡ packetTaking t packet room
+      go true h = rw (← byte-ten (typeAt (byte s 0)) s h, put-given t packet room)
+      go false h = rw (other (t .origin) packet room seen h, other (t .origin) packet room (stateAt t (tagOf packet)) h, put-same t (byte s 10))
 
-    pub take-read : (room : ℕ) (p : Packet) (y : Taking) → a ≡ Accepted p → y ≡ packetTaking t p room → y ≡ takeCall t b room
-    unfolding takeCall
-    take-read room p y g q = rw (← e, not-false v h, ← f, g) q
+  packet-left : (payload store : List ℕ) → packetLaid (t .origin) seen packet payload store ≡ packetStore t packet payload store
+  unfolding packetStore
+  packet-left payload store = go (isCompletion packet) refl
+    where
+      go : (b : Bool) → isCompletion packet ≡ b → packetLaid (t .origin) seen packet payload store ≡ packetStore t packet payload store
+      go true h = rw (← byte-ten (typeAt (byte s 0)) s h)
+      go false h = rw (other (t .origin) packet (length store) seen h, other (t .origin) packet (length store) (stateAt t (tagOf packet)) h)
 
-    pub take-store-read : (store : List ℕ) (p : Packet) (d store′ : List ℕ) → a ≡ Accepted p → d ≡ payloadOf p b → store′ ≡ packetStore t p d store → store′ ≡ takeStore t b store
-    unfolding takeStore
-    take-store-read store p d store′ g k q = rw (← e, not-false v h, ← f, g, ← k) q
+  whole : (room : ℕ) → record { table = putState t (byte s 10) (takeOutcome (viewOf t (byte s 10)) s room .state); answer = takeOutcome (viewOf t (byte s 10)) s room .answer } ≡ takeCall t s room
+  unfolding takeCall takeOutcome readPacket
+  whole room = go (validTable t) (first (readRows (t .origin .settings) s))
+    where
+      go : (b : Bool) (n : ℕ) → record { table = putState t (byte s 10) (outcomeFrom room b n .state); answer = outcomeFrom room b n .answer }
+          ≡ pick b (answerTaking t (answerOf n packet) room) (record { table = t; answer = Refused 11 })
+      go true zero = packet-done room
+      go true (suc n) = rw (put-same t (byte s 10))
+      go false n = rw (put-same t (byte s 10))
 
-pub ruleset take-laws = (take-11, take-unread, take-read)
+  left : (store : List ℕ) → takeLaid (viewOf t (byte s 10)) s store ≡ takeStore t s store
+  unfolding takeLaid takeStore readPacket
+  left store = go (validTable t) (first (readRows (t .origin .settings) s))
+    where
+      go : (b : Bool) (n : ℕ) → pick b (answerLaid (t .origin) seen (answerOf n packet) s store) store ≡ pick b (answerStore t (answerOf n packet) s store) store
+      go true zero = packet-left (payloadOf packet s) store
+      go true (suc n) = refl
+      go false n = refl
 
-pub ruleset take-store-laws = (take-store-11, take-store-unread, take-store-read)
+  module _ (tag : ℕ) (v : View) (e : tag ≡ byte s 10) (f : v ≡ viewOf t tag) where
+    pub take-done : (room : ℕ) (r : Outcome) (t′ : Table) → r ≡ takeOutcome v s room → t′ ≡ putState t tag (r .state) → record { table = t′; answer = r .answer } ≡ takeCall t s room
+    take-done room r t′ g h = rw (h, g, f, e) (whole room)
+
+    pub take-left : (store store′ : List ℕ) → store′ ≡ takeLaid v s store → store′ ≡ takeStore t s store
+    take-left store store′ g = g ∙ rw (f, e) (left store)

@@ -9,13 +9,19 @@ use read_slots::CAPACITY;
 use read_slots::Slot;
 use read_slots::State;
 use read_slots::is_open;
+use read_slots::slot_valid;
 use read_slots::slots_owed;
-use read_slots::slots_valid;
 use tlp::settings::Settings;
 use tlp::settings::settings_listed;
 ghost use mathlib.Core.Path.{_≡_};
-ghost use Rattle.reads.specs.Tables.{tagLimit, newTable, stateAt, withState, validTable};
-ghost use Rattle.reads.specs.OtherCalls.{makeCall, withdrawCall, owedCall};
+ghost use mathlib.Core.Bool.{not};
+ghost use mathlib.Core.List.{_∷_};
+ghost use Prim.Native.Nat.{_<_};
+ghost use lib.Dec.{ltb};
+ghost use Rattle.bits.specs.Choice.{pick};
+ghost use Rattle.tlp.specs.Rows.{row, first};
+ghost use Rattle.reads.specs.Tables.{capacity, tagLimit, newTable, viewOf, putState};
+ghost use Rattle.reads.specs.OtherCalls.{makeCall, withdrawRules, withdrawAnswer, recordWithdrawn, withdrawCall, owedCall};
 
 // Fields are public, so that a table that no call reaches can be made and tried.
 pub struct Table {
@@ -51,41 +57,113 @@ pub(crate) fn tag_limit(s: Settings) -> u32
     32
 }
 
-// What 11 denies.
-pub(crate) fn is_valid(t: Table) -> bool
-    ensures { λ r. ⌜ r ≡ validTable t ⌝ }
+// What a call looks at: what the table was made from, whether it is valid, and one tag's record.
+pub(crate) struct View {
+    pub origin: Origin,
+    pub valid: bool,
+    pub state: State,
+}
+
+// A tag's slot; the first one for a tag over the limit.
+fn slot_index(s: Settings, tag: u32) -> usize
+    ensures { λ i. ⌜ (i ≡ pick (ltb tag (tagLimit s)) tag 0) × (i < capacity) ⌝ }
+{
+    if tag < tag_limit(s) {
+        return tag as usize;
+    }
+    0
+}
+
+// A tag's record, from that slot.
+fn record_in(s: Settings, tag: u32, y: Slot) -> State
+    ensures { λ x. ⌜ x ≡ pick (ltb tag (tagLimit s)) (y .state) State.Free ⌝ }
+{
+    if tag < tag_limit(s) {
+        return y.state;
+    }
+    State::Free
+}
+
+// The record is read and the slots are scanned in one function, since each function that is given a table copies it.
+pub(crate) fn view_of(t: Table, tag: u32) -> View
+    ensures { λ v. ⌜ v ≡ viewOf t tag ⌝ }
 {
     let o = t.origin;
     let s = o.settings;
+    let i = slot_index(s, tag);
+    let y = t.slots[i];
+    let x = record_in(s, tag, y);
     if !settings_listed(s) {
-        return false;
+        return View {
+            origin: o,
+            valid: false,
+            state: x,
+        };
     }
-    let slots = t.slots;
-    slots_valid(s, slots)
+    let mut k: usize = 0;
+    while k < CAPACITY {
+        let z = t.slots[k];
+        if !slot_valid(s, z) {
+            return View {
+                origin: o,
+                valid: false,
+                state: x,
+            };
+        }
+        k += 1;
+    }
+    View {
+        origin: o,
+        valid: true,
+        state: x,
+    }
 }
 
-// A tag's record.
-pub(crate) fn state_at(t: Table, tag: u32) -> State
-    ensures { λ x. ⌜ x ≡ stateAt t tag ⌝ }
+// Every change of a slot. It returns once: of two returns each would copy the table once more.
+pub(crate) fn put(mut t: Table, tag: u32, x: State) -> Table
+    ensures { λ n. ⌜ n ≡ putState t tag x ⌝ }
 {
     let o = t.origin;
-    if tag_limit(o.settings) <= tag {
-        return State::Free;
+    if tag < tag_limit(o.settings) {
+        t.slots[tag as usize] = Slot { state: x };
     }
-    let x = t.slots[tag as usize];
-    x.state
+    t
 }
 
-// Every change of a slot.
-pub(crate) fn with_state(mut t: Table, tag: u32, x: State) -> Table
-    ensures { λ n. ⌜ n ≡ withState t tag x ⌝ }
+// The first of 11, 20 and 25 that holds; 0 where none does.
+fn withdraw_number(v: View, tag: u32) -> u32
+    ensures { λ n. ⌜ n ≡ first (row 11 (not (v .valid)) ∷ withdrawRules (v .origin) (v .state) tag) ⌝ }
 {
-    let i = tag as usize;
-    if CAPACITY <= i {
-        return t;
+    if !v.valid {
+        return 11;
     }
-    t.slots[i] = Slot { state: x };
-    t
+    let o = v.origin;
+    if tag_limit(o.settings) <= tag {
+        return 20;
+    }
+    let x = v.state;
+    if !is_open(x) {
+        return 25;
+    }
+    0
+}
+
+fn withdraw_answer(n: u32) -> WithdrawAnswer
+    ensures { λ a. ⌜ a ≡ withdrawAnswer n ⌝ }
+{
+    if n == 0 {
+        return WithdrawAnswer::Withdrawn;
+    }
+    WithdrawAnswer::Refused(n)
+}
+
+fn record_withdrawn(n: u32, x: State) -> State
+    ensures { λ y. ⌜ y ≡ recordWithdrawn n x ⌝ }
+{
+    if n == 0 {
+        return State::Free;
+    }
+    x
 }
 
 impl Table {
@@ -116,29 +194,12 @@ impl Table {
     pub fn withdraw(self, tag: u32) -> Withdrawal
         ensures { λ r. ⌜ r ≡ withdrawCall self tag ⌝ }
     {
-        let t = self;
-        if !is_valid(t) {
-            return Withdrawal {
-                table: t,
-                answer: WithdrawAnswer::Refused(11),
-            };
-        }
-        let o = t.origin;
-        if tag_limit(o.settings) <= tag {
-            return Withdrawal {
-                table: t,
-                answer: WithdrawAnswer::Refused(20),
-            };
-        }
-        if !is_open(state_at(t, tag)) {
-            return Withdrawal {
-                table: t,
-                answer: WithdrawAnswer::Refused(25),
-            };
-        }
+        let v = view_of(self, tag);
+        let x = v.state;
+        let n = withdraw_number(v, tag);
         Withdrawal {
-            table: with_state(t, tag, State::Free),
-            answer: WithdrawAnswer::Withdrawn,
+            table: put(self, tag, record_withdrawn(n, x)),
+            answer: withdraw_answer(n),
         }
     }
 
@@ -146,11 +207,11 @@ impl Table {
     pub fn owed(self) -> OwedAnswer
         ensures { λ r. ⌜ r ≡ owedCall self ⌝ }
     {
-        let t = self;
-        if !is_valid(t) {
+        let v = view_of(self, 0);
+        if !v.valid {
             return OwedAnswer::Refused(11);
         }
-        let slots = t.slots;
+        let slots = self.slots;
         OwedAnswer::Owed(slots_owed(slots))
     }
 }

@@ -1,13 +1,14 @@
 // Taking a completion.
 use crate::table::Table;
 use crate::table::Taking;
-use crate::table::is_valid;
-use crate::table::state_at;
-use crate::table::with_state;
+use crate::table::View;
+use crate::table::put;
+use crate::table::view_of;
+use bits::word::byte_at;
 use read_answers::TakeAnswer;
 use read_answers::packet_answer;
 use read_answers::read_in;
-use read_rules::piece::Piece;
+use read_rules::continuation::Origin;
 use read_rules::piece::piece_of;
 use read_rules::validity::Read;
 use read_slots::State;
@@ -19,8 +20,7 @@ ghost use mathlib.Core.Path.{_≡_};
 ghost use Prim.Native.Nat.{_+_, _≤_};
 ghost use lib.ListN.{length};
 ghost use Rattle.read_answers.specs.Takes.{readIn};
-ghost use Rattle.reads.specs.Tables.{stateAt};
-ghost use Rattle.reads.specs.TakeCall.{advanced, tableGiven, storeGiven, packetTaking, packetStore, takeCall, takeStore};
+ghost use Rattle.reads.specs.TakeCall.{advanced, recordGiven, storeGiven, packetOutcome, takeOutcome, packetLaid, takeLaid, takeCall, takeStore};
 
 // A record after n doublewords more.
 fn advance(x: State, n: u32) -> State
@@ -39,20 +39,24 @@ fn advance(x: State, n: u32) -> State
     }
 }
 
-// The table after an answer; x is the record of the completion's tag.
-fn table_given(a: TakeAnswer, t: Table, c: Piece, x: State) -> Table
-    requires { ⌜ (x ≡ stateAt t (c .header .tag)) × (a ≡ TakeAnswer.More → readIn x .taken + c .length ≤ readIn x .request .access .length) ⌝ }
-    ensures { λ n. ⌜ n ≡ tableGiven a t c ⌝ }
+// What a packet does: the answer, and the record of its tag afterwards.
+pub(crate) struct Outcome {
+    pub answer: TakeAnswer,
+    pub state: State,
+}
+
+// The record after an answer; n is the completion's length.
+fn record_given(a: TakeAnswer, x: State, n: u32) -> State
+    requires { ⌜ (a ≡ TakeAnswer.More → readIn x .taken + n ≤ readIn x .request .access .length) ⌝ }
+    ensures { λ y. ⌜ y ≡ recordGiven a x n ⌝ }
 {
-    let h = c.header;
-    let tag = h.tag as u32;
     match a {
-        TakeAnswer::More => with_state(t, tag, advance(x, c.length)),
-        TakeAnswer::Done => with_state(t, tag, State::Free),
-        TakeAnswer::Failed(_) => with_state(t, tag, State::Free),
-        TakeAnswer::Poisoned => with_state(t, tag, State::Free),
-        TakeAnswer::Unread(_) => t,
-        TakeAnswer::Refused(_) => t,
+        TakeAnswer::More => advance(x, n),
+        TakeAnswer::Done => State::Free,
+        TakeAnswer::Failed(_) => State::Free,
+        TakeAnswer::Poisoned => State::Free,
+        TakeAnswer::Unread(_) => x,
+        TakeAnswer::Refused(_) => x,
     }
 }
 
@@ -71,44 +75,58 @@ fn store_given(a: TakeAnswer, r: Read, payload: &[u8], store: &mut [u8])
     }
 }
 
-// What the answer to a packet does to table and store.
-fn take_packet(t: Table, p: Packet, payload: &[u8], store: &mut [u8]) -> Taking
-    ensures { λ r. ⌜ r ≡ packetTaking t p (length (now (store .entry))) ⌝ }
-    ensures { λ _. ⌜ now (store .exit) ≡ packetStore t p (now (payload .entry)) (now (store .entry)) ⌝ }
+// What a packet that was read does; x is the record of its tag.
+fn packet_outcome(o: Origin, x: State, p: Packet, payload: &[u8], store: &mut [u8]) -> Outcome
+    ensures { λ r. ⌜ r ≡ packetOutcome o x p (length (now (store .entry))) ⌝ }
+    ensures { λ _. ⌜ now (store .exit) ≡ packetLaid o x p (now (payload .entry)) (now (store .entry)) ⌝ }
 {
-    let c = piece_of(p);
-    let h = c.header;
-    let x = state_at(t, h.tag as u32);
-    let o = t.origin;
     let answer = packet_answer(o, x, p, store.len() as u64);
     store_given(answer, read_in(x), payload, store);
-    Taking {
-        table: table_given(answer, t, c, x),
+    let c = piece_of(p);
+    Outcome {
         answer: answer,
+        state: record_given(answer, x, c.length),
+    }
+}
+
+// What bytes do to a table that is seen as v.
+fn take_outcome(v: View, bytes: &[u8], store: &mut [u8]) -> Outcome
+    ensures { λ r. ⌜ r ≡ takeOutcome v (now (bytes .entry)) (length (now (store .entry))) ⌝ }
+    ensures { λ _. ⌜ now (store .exit) ≡ takeLaid v (now (bytes .entry)) (now (store .entry)) ⌝ }
+{
+    let x = v.state;
+    if !v.valid {
+        return Outcome {
+            answer: TakeAnswer::Refused(11),
+            state: x,
+        };
+    }
+    let o = v.origin;
+    let answer = read(o.settings, bytes);
+    match answer {
+        ReadAnswer::Refused(r) => Outcome {
+            answer: TakeAnswer::Unread(r),
+            state: x,
+        },
+        ReadAnswer::Accepted(p) => packet_outcome(o, x, p, tlp_read::payload(p, bytes), store),
     }
 }
 
 impl Table {
-    // Takes a packet: its enabled bytes go into the store where it is answered More or Done.
+    // Takes a packet: its enabled bytes go into the store where it is answered More or Done. A completion has its tag in byte 10; what is none
+    // changes no record, so it does not matter which one is looked at.
     pub fn take(self, bytes: &[u8], store: &mut [u8]) -> Taking
         ensures { λ r. ⌜ r ≡ takeCall self (now (bytes .entry)) (length (now (store .entry))) ⌝ }
         ensures { λ _. ⌜ now (store .exit) ≡ takeStore self (now (bytes .entry)) (now (store .entry)) ⌝ }
     {
-        let t = self;
-        if !is_valid(t) {
-            return Taking {
-                table: t,
-                answer: TakeAnswer::Refused(11),
-            };
-        }
-        let o = t.origin;
-        let answer = read(o.settings, bytes);
-        match answer {
-            ReadAnswer::Refused(r) => Taking {
-                table: t,
-                answer: TakeAnswer::Unread(r),
-            },
-            ReadAnswer::Accepted(p) => take_packet(t, p, tlp_read::payload(p, bytes), store),
+        let tag = byte_at(bytes, 10) as u32;
+        let v = view_of(self, tag);
+        let done = take_outcome(v, bytes, store);
+        let x = done.state;
+        let answer = done.answer;
+        Taking {
+            table: put(self, tag, x),
+            answer: answer,
         }
     }
 }

@@ -6,11 +6,12 @@ use native.Mathlib.Omega.{arith}
 use mathlib.Core.Path.{_≡_, refl, sym, ap, _∙_}
 use mathlib.Core.Bool.{Bool, true, false}
 use mathlib.Core.Logic.{_⊎_, inl, inr}
-use mathlib.Core.List.{List, [], _∷_, _++_}
-use lib.ListN.{length, take, drop, getD, set, take-append-drop}
+use mathlib.Core.List.{List, [], _∷_, _++_, append-nil}
+use lib.ListN.{length, take, drop, getD, set, drop-of-length-le}
 use lib.Seq.{set-getD, take-all}
 use Rattle.bits.specs.Choice.{pick}
 use Rattle.scan.specs.Merges.{merged}
+use Rattle.scan.proofs.MergeLaws.{merged-nil, merged-split}
 
 module _ (f : ℕ → Bool) where
   pub merged-none : (k : ℕ) (ds xs : List ℕ) → xs ≡ merged f k (take 0 ds) xs
@@ -43,12 +44,7 @@ module _ (f : ℕ → Bool) where
       rw (add-one, step k ds xs i h (omega arith), ← e, q, w, inv)
 
   cut : (k n : ℕ) (ds xs : List ℕ) → length xs ≤ n → merged f k (take n ds) xs ≡ merged f k ds xs
-  unfolding merged
-  cut k n [] xs h = ap (λ (l : List ℕ). merged f k l xs) (take-all n [] (omega arith))
-  cut k zero (d ∷ ds) [] h = refl
-  cut k zero (d ∷ ds) (x ∷ xs) h = absurd (omega arith)
-  cut k (suc n) (d ∷ ds) [] h = refl
-  cut k (suc n) (d ∷ ds) (x ∷ xs) h = rw (cut (suc k) n ds xs (omega arith))
+  cut k n ds xs h = rw (take-all n xs h, drop-of-length-le xs {i = n} h, merged-nil, append-nil) at (merged-split f k n ds xs)
 
   -- the loop has ended: all of one list is used
   pub merge-all : (k : ℕ) (ds xs part : List ℕ) (i : ℕ) → part ≡ merged f k (take i ds) xs → length ds ≤ i → part ≡ merged f k ds xs
@@ -60,12 +56,7 @@ module _ (f : ℕ → Bool) where
   -- a part as long as either list takes all that is laid
   pub merged-part : (k n : ℕ) (ds xs : List ℕ) → (length ds ≤ n) ⊎ (length xs ≤ n) → merged f k ds (take n xs) ++ drop n xs ≡ merged f k ds xs
   unfolding merged
-  merged-part k n [] xs h = take-append-drop n xs
-  merged-part k zero (d ∷ ds) [] h = refl
-  merged-part k (suc n) (d ∷ ds) [] h = refl
-  merged-part k zero (d ∷ ds) (x ∷ xs) (inl h) = absurd (omega arith)
-  merged-part k zero (d ∷ ds) (x ∷ xs) (inr h) = absurd (omega arith)
-  merged-part k (suc n) (d ∷ ds) (x ∷ xs) (inl h) = rw (merged-part (suc k) n ds xs (inl (omega arith)))
-  merged-part k (suc n) (d ∷ ds) (x ∷ xs) (inr h) = rw (merged-part (suc k) n ds xs (inr (omega arith)))
+  merged-part k n ds xs (inl h) = rw (take-all n ds h, drop-of-length-le ds {i = n} h) at (merged-split f k n ds xs)
+  merged-part k n ds xs (inr h) = rw (take-all n xs h, drop-of-length-le xs {i = n} h) (append-nil (merged f k ds xs))
 
 pub ruleset merge-steps = (merged-none, merge-more, merge-all, merge-full)

@@ -1,83 +1,101 @@
-use mathlib.Core.Path.{_≡_, refl}
-use Prim.Native.Nat.{_-_, _*_, _≤_}
+use mathlib.Core.Path.{sym}
 use native.Mathlib.Omega.{arith}
-use lib.ListN.{length, take, length-set}
-use Rattle.byte_enables.specs.Enables.{enabled}
-use Rattle.scan.specs.Merges.{merged}
-use Rattle.scan.proofs.MergeSteps.{merge-steps}
+use lib.ListN.{length-take}
+use lib.Seq.{length-take-le}
+use Rattle.read_store.proofs.Returns.{stored-laws}
 use borrow.Author.Needs.{needs}
 use Rattle.read_store.proofs.store_enabled.Statement.{statement}
 use Rattle.read_store.proofs.store_enabled.Tie as tie
 
-abbrev Inv-loop : tie.InvT-loop
-Inv-loop a p payload part₀ i₀ part i = (i ≤ length payload) × (length part ≡ length part₀) × (part ≡ merged (enabled a) (4 * p) (take i payload) part₀)
+mul-k : tie.Need-mul-k
+mul-k c = search needs
 
-abbrev μ-loop : tie.MeasureT-loop
-μ-loop a p payload part₀ i₀ part i = length payload - i
+lesser-requires : tie.Need-lesser-requires
+lesser-requires c κs = search needs
 
-loop-holds : tie.Need-loop-holds Inv-loop μ-loop
-loop-holds c = (omega arith, refl, search merge-steps)
+whole-from-requires : tie.Need-whole-from-requires
+whole-from-requires c κs = search needs
 
-same-length : tie.Need-same-length Inv-loop μ-loop
+past-requires : tie.Need-past-requires
+past-requires c κs = search needs
+
+lesser-requires-2 : tie.Need-lesser-requires-2
+lesser-requires-2 c κs = search needs
+
+add-whole-run : tie.Need-add-whole-run
+add-whole-run c = search needs
+
+sub-whole-run : tie.Need-sub-whole-run
+sub-whole-run c = search needs
+
+whole-run-requires : tie.Need-whole-run-requires
+whole-run-requires c κs = search needs
+
+slice-aggregate-store-tested : tie.Need-slice-aggregate-store-tested
+slice-aggregate-store-tested c = sym (length-take-le _ _ (omega arith))
+
+slice-relend-prefix-store-tested : tie.Need-slice-relend-prefix-store-tested
+slice-relend-prefix-store-tested c = search needs
+
+slice-aggregate-store-tested-2 : tie.Need-slice-aggregate-store-tested-2
+slice-aggregate-store-tested-2 c = sym (length-take-le _ _ (omega arith))
+
+store-tested-requires : tie.Need-store-tested-requires
+store-tested-requires c κs = simp length-take (omega arith)
+
+add-store-whole : tie.Need-add-store-whole
+add-store-whole c = search needs
+
+sub-store-whole : tie.Need-sub-store-whole
+sub-store-whole c = search needs
+
+part-store-whole-start : tie.Need-part-store-whole-start
+part-store-whole-start c = search needs
+
+part-store-whole-end : tie.Need-part-store-whole-end
+part-store-whole-end c = search needs
+
+sub-store-whole-2 : tie.Need-sub-store-whole-2
+sub-store-whole-2 c = search needs
+
+part-store-whole-start-2 : tie.Need-part-store-whole-start-2
+part-store-whole-start-2 c = search needs
+
+part-store-whole-end-2 : tie.Need-part-store-whole-end-2
+part-store-whole-end-2 c = search needs
+
+store-whole-requires : tie.Need-store-whole-requires
+store-whole-requires c κs = search needs
+
+same-length : tie.Need-same-length
 same-length c = search needs
 
-returns : tie.Need-returns Inv-loop μ-loop
-returns c = search merge-steps
-
-mul-enabled-at : tie.Need-mul-enabled-at Inv-loop μ-loop
-mul-enabled-at c = search needs
-
-add-enabled-at : tie.Need-add-enabled-at Inv-loop μ-loop
-add-enabled-at c = search needs
-
-enabled-at-requires : tie.Need-enabled-at-requires Inv-loop μ-loop
-enabled-at-requires c κs = search needs
-
-shared-slice-read-chosen : tie.Need-shared-slice-read-chosen Inv-loop μ-loop
-shared-slice-read-chosen c = search needs
-
-slice-read-chosen : tie.Need-slice-read-chosen Inv-loop μ-loop
-slice-read-chosen c = search needs
-
-chosen-requires : tie.Need-chosen-requires Inv-loop μ-loop
-chosen-requires c κs = search needs
-
-slice-write-part : tie.Need-slice-write-part Inv-loop μ-loop
-slice-write-part c = search needs
-
-add-i : tie.Need-add-i Inv-loop μ-loop
-add-i c = search needs
-
-loop-less : tie.Need-loop-less Inv-loop μ-loop
-loop-less c = search needs
-
-loop-again : tie.Need-loop-again Inv-loop μ-loop
-loop-again c = (omega arith, simp length-set (omega arith), search (merge-steps, needs))
-
-same-length-2 : tie.Need-same-length-2 Inv-loop μ-loop
-same-length-2 c = search needs
-
-returns-2 : tie.Need-returns-2 Inv-loop μ-loop
-returns-2 c = search merge-steps
+returns : tie.Need-returns
+returns c = search (stored-laws, needs)
 
 pub store-enabled-spec : {M : Type 1} → statement M
 store-enabled-spec =
     tie.close
     (tie.spec
-    Inv-loop
-    μ-loop
-    loop-holds
+    mul-k
+    lesser-requires
+    whole-from-requires
+    past-requires
+    lesser-requires-2
+    add-whole-run
+    sub-whole-run
+    whole-run-requires
+    slice-aggregate-store-tested
+    slice-relend-prefix-store-tested
+    slice-aggregate-store-tested-2
+    store-tested-requires
+    add-store-whole
+    sub-store-whole
+    part-store-whole-start
+    part-store-whole-end
+    sub-store-whole-2
+    part-store-whole-start-2
+    part-store-whole-end-2
+    store-whole-requires
     same-length
-    returns
-    mul-enabled-at
-    add-enabled-at
-    enabled-at-requires
-    shared-slice-read-chosen
-    slice-read-chosen
-    chosen-requires
-    slice-write-part
-    add-i
-    loop-less
-    loop-again
-    same-length-2
-    returns-2)
+    returns)

@@ -3,11 +3,8 @@ use borrow.Author.Needs.{needs}
 use Rattle.read_rules.proofs.window.place_number.Statement.{statement}
 use Rattle.read_rules.proofs.window.place_number.Tie as tie
 
-cast-if1 : tie.Need-cast-if1
-cast-if1 c = search needs
-
-window-size-requires : tie.Need-window-size-requires
-window-size-requires c κs = search needs
+over-request-size-requires : tie.Need-over-request-size-requires
+over-request-size-requires c κs = search needs
 
 returns : tie.Need-returns
 returns c = search rows depth 12 fits 4000
@@ -23,5 +20,4 @@ returns-3 c = search rows depth 12 fits 4000
 
 pub place-number-spec : {M : Type 1} → statement M
 place-number-spec =
-    tie.close
-    (tie.spec cast-if1 window-size-requires returns place-bad-requires returns-2 returns-3)
+    tie.close (tie.spec over-request-size-requires returns place-bad-requires returns-2 returns-3)

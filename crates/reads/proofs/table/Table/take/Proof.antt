@@ -1,49 +1,37 @@
-use Rattle.reads.proofs.TakeLaws.{take-laws, take-store-laws}
+use Rattle.reads.proofs.TakeLaws.{take-done, take-left}
 use borrow.Author.Needs.{needs}
 use Rattle.reads.proofs.table.Table.take.Statement.{statement}
 use Rattle.reads.proofs.table.Table.take.Tie as tie
 
-is-valid-requires : tie.Need-is-valid-requires
-is-valid-requires c κs = search needs
+byte-at-requires : tie.Need-byte-at-requires
+byte-at-requires c κs = search needs
 
-returns : tie.Need-returns
-returns c = (search take-laws, search take-store-laws)
+cast-tag : tie.Need-cast-tag
+cast-tag c = search needs
 
-read-requires : tie.Need-read-requires
-read-requires c κs = search needs
+view-of-requires : tie.Need-view-of-requires
+view-of-requires c κs = search needs
 
-enum-known-answer : tie.Need-enum-known-answer
-enum-known-answer c = search needs
+take-outcome-requires : tie.Need-take-outcome-requires
+take-outcome-requires c κs = search needs
 
-enum-known-answer-2 : tie.Need-enum-known-answer-2
-enum-known-answer-2 c = search needs
-
-payload-requires : tie.Need-payload-requires
-payload-requires c κs = search needs
-
-take-packet-requires : tie.Need-take-packet-requires
-take-packet-requires c κs = search needs
-
-returns-2 : tie.Need-returns-2
-returns-2 c = (search take-laws, search take-store-laws)
+put-requires : tie.Need-put-requires
+put-requires c κs = search needs
 
 same-length : tie.Need-same-length
 same-length c = search needs
 
-returns-3 : tie.Need-returns-3
-returns-3 c = (search take-laws, search take-store-laws)
+returns : tie.Need-returns
+returns c = (search take-done, search take-left)
 
 pub take-spec : {M : Type 1} → statement M
 take-spec =
     tie.close
     (tie.spec
-    is-valid-requires
-    returns
-    read-requires
-    enum-known-answer
-    enum-known-answer-2
-    payload-requires
-    take-packet-requires
-    returns-2
+    byte-at-requires
+    cast-tag
+    view-of-requires
+    take-outcome-requires
+    put-requires
     same-length
-    returns-3)
+    returns)
