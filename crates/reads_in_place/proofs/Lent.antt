@@ -1,6 +1,5 @@
--- The steps that the walks of this crate share. Each call copies the lent table out and hands it to the core; three of the four store the core's table back and return its answer.
--- A step finds what it needs at the head of the context, in the order that it names, and leaves the rest, Γ, as it is.
--- Assumes `Given`, and `FmC` of the table of calls.
+-- The steps that this crate's walks share. Every call copies the lent table out and hands the copy to the core; all but `owed` then store the core's table back and return its answer.
+-- A step takes what it is about from the head of the context, in the order that its type shows. Γ is the rest, whatever it is.
 use mathlib.Core.Path.{_≡_, refl, sym, subst, ap}
 use Prim.Native.Nat.{ℕ, _<_, _^_}
 use mathlib.Core.List.{List, [], _∷_}
@@ -10,23 +9,23 @@ use lib.Dec.{T as Holds}
 use mir.Syntax.{Name, Sym, Lifetime, named, Ty, tyStruct, tyRef, tyInt, mut, w64, tcons, tnil, Step as PStep, deref, field, Opd as Operand, Place, place, copy, rvOpd, addrOf, aggregate, Body, seq, assign, call, return}
 use mir.Val.{Val, vptr, vstruct, vcons, vnil, WT, hasTy}
 use base.Logic.{SProp, ent, sep, emp, id⊢, via}
-use base.Fml.{Fml, GName, Lft, Share, ftrue, fsep, fat, froom, fdies, flft, fobs, fauth, fbor, fobor, fshr-bor}
+use base.Fml.{Fml, GName, Lft, Share, fsep, fat, froom, fdies, flft, fobs, fauth, fbor, fobor, fshr-bor}
 use prog.Wp.{Heap, Env, Spot, Calls, Loops, spotOf}
 use ghost.Atoms.{Atoms}
 use sound.WpLaws.{FmC}
 use contract.Monad.{fact}
-use types.Kit.{Given, Item, ‵, raw, some, later, _⊛_, mean, ⋆, Goal, Post, prop, runs, lands, frees, atRet, Seq, Step, step, _$_, _∵_, !, qed, by, move, drop, use1, split, join, pick, rewrite, fsplit, fsplit3, fjoin, fjoin3, feqI, frame, await, done}
+use types.Kit.{Given, Item, ‵, raw, some, later, _⊛_, mean, Goal, Post, prop, runs, lands, frees, atRet, Seq, Step, step, _$_, _∵_, !, qed, by, move, drop, use1, split, join, pick, rewrite, fsplit, fsplit3, fjoin, fjoin3, feqI, frame, await}
 use types.Run.{Walks, Finds, Opds, look, look-raw, init, store-raw, forget, stop, hop, fld, from, load, addr, of-opd, and-then, no-more, assigns, land, returns, free1, free0}
 use types.Part.{agg, whole, sub, look-in}
 use types.SemTy.{Body as Borrowed}
-use denote.RattleType.{Denots, owns}
+use denote.RattleType.{Denots}
 use denote.Laws.{Is, shows}
 use denote.Memory.{mem, cellAt, partAt}
 use denote.Builtin.{u8}
 use denote.Ref.{RefT, MutRef}
 use denote.Slice.{sliceVal, ShrSlice, shr-slice-copy}
-use denote.Signature.{typeAt, typesAt}
-use denote.Steps.{only, opens, closes, looks, shuts, owned, peeks, heard, nothing}
+use denote.Signature.{typeAt}
+use denote.Steps.{only, opens, closes, looks, shuts, owned, peeks, heard}
 use denote.Struct.Steps.{spelt}
 use denote.Struct.Declared as Structs
 use denote.Struct.Field.{rows}
@@ -34,30 +33,30 @@ use denote.Struct.Laws as LL
 use denote.Enum.Declared as Enums
 use denote.Enum.Enum.{Plainss, layout}
 use denote.Enum.Laws as EL
-use denote.Triple.Statement.{Contract, Triple}
+use denote.Triple.Statement.{Triple}
 use denote.Triple.Entry.{Res, alive, onEntry}
 use denote.Triple.Spec.{tripleOf}
-use denote.Triple.Clauses.{Ended, Clauses, Lasts, atExit, lasts, ensured, closing}
+use denote.Triple.Clauses.{Ended, Clauses, Lasts, atExit, lasts, closing}
 use denote.Triple.Call.{calls-from}
 use Rattle.reads.specs.declared.table.Table.{Table}
 use Rattle.reads.proofs.table.Table as T
 use Rattle.reads.proofs.table.Table.Laws as T′
 
--- the machine value of a table
+-- a table in memory is this one value
 abbrev pub mach : Table → Val
 mach h = LL.val T.the-type T′.the-laws h
 
-abbrev pub IsTable : Table → Type 0
+abbrev IsTable : Table → Type 0
 IsTable h = Is T.the-row h (mach h ∷ [])
 
--- a result's type and machine value: the table, then the answer
+-- a result in memory: the table, then the answer
 abbrev pairTy : Sym → Ty → Ty
 pairTy ν τ = tyStruct ν (tcons T′.mir (tcons τ tnil))
 
 abbrev pairVal : Table → Val → Val
 pairVal h a = vstruct (vcons (mach h) (vcons a vnil))
 
--- v is such a value
+-- v is a result with the table h and the answer a
 record Result (ν : Sym) (τ : Ty) (h : Table) (a : Val) (v : Val) : Type 0 where
   typed : Holds (hasTy (pairTy ν τ) v) × WT v
   parts : v ≡ pairVal h a
@@ -65,41 +64,41 @@ record Result (ν : Sym) (τ : Ty) (h : Table) (a : Val) (v : Val) : Type 0 wher
   answer : Holds (hasTy τ a) × WT a
 
 module _ {M : Type 1} (𝓤 : URA M) where
-  -- a table lent by `&mut`: what says its value, the borrow, and the lifetime's token
+  -- a table that is lent by `&mut`: its value as the lender will see it, the borrow, and the token of its lifetime
   abbrev pub Shut : Lft → Share → ℕ → ℕ → GName → Table → List (Item 𝓤) → List (Item 𝓤)
   Shut κ s b o γ h Γ = ‵ (fobs γ (T.the-row .coded .code h)) ∷ ‵ (fbor κ (Borrowed (mem T.the-row) b o γ)) ∷ ‵ (flft κ s) ∷ Γ
 
-  -- the same with the borrow open: the table's cell, what a table owns, the way back, and both halves of what says its value
-  abbrev pub Opened : Lft → Share → ℕ → ℕ → GName → Table → List (Item 𝓤) → List (Item 𝓤)
+  -- the same while it is read or written: the cell itself, what a table owns, and the three parts that close the borrow again
+  abbrev Opened : Lft → Share → ℕ → ℕ → GName → Table → List (Item 𝓤) → List (Item 𝓤)
   Opened κ s b o γ h Γ =
       ‵ (cellAt fullShare (T.the-row .mir) (mach h ∷ []) b o) ∷ ‵ (T.the-row .own h (mach h ∷ [])) ∷ ‵ (fobor κ s (Borrowed (mem T.the-row) b o γ))
       ∷ ‵ (fobs γ (T.the-row .coded .code h)) ∷ ‵ (fauth γ (T.the-row .coded .code h)) ∷ Γ
 
-  -- a function's locals, each with its value
-  abbrev pub cells : List (Ty × ℕ) → List Val → List (Item 𝓤) → List (Item 𝓤)
+  -- locals with their values
+  abbrev cells : List (Ty × ℕ) → List Val → List (Item 𝓤) → List (Item 𝓤)
   cells [] vs Γ = Γ
   cells (x ∷ E) [] Γ = Γ
   cells (x ∷ E) (v ∷ vs) Γ = ‵ (fat fullShare (x .0) (x .1) 0 v) ∷ ‵ (fdies (x .0) (x .1)) ∷ cells E vs Γ
 
--- there is a value for each
-abbrev pub Each : List (Ty × ℕ) → List Val → Type 0
+-- every local has one
+abbrev Each : List (Ty × ℕ) → List Val → Type 0
 Each [] vs = Unit {0}
 Each (x ∷ E) [] = ⊥
 Each (x ∷ E) (v ∷ vs) = Each E vs
 
 module _ {M : Type 1} {𝓤 : URA M} {H : Heap 𝓤} {A : Atoms 𝓤} {K : Type 0} {W : Given 𝓤 H A} where
-  -- a place that starts at a local, by what the environment has there
+  -- a place in the local i, where only that local is known of the environment
   at-local : {Γ : List (Item 𝓤)} → K → {E : Env 𝓤 H} {i : ℕ} {st : List PStep} {sp sp′ : Spot 𝓤 H} → spotOf 𝓤 H E i ≡ sp → Walks K W Γ E sp st sp′ → Finds K W Γ E (place i st) sp′
   at-local {Γ} t {E} {i} {st} {sp} {sp′} e w = from t (subst (λ (s : Spot 𝓤 H). Walks K W Γ E s st sp′) (sym e) w)
 
-  -- a function's locals are freed, whatever is in them
+  -- all locals are given up at once
   pub freed : K → (E : Env 𝓤 H) (vs : List Val) {Γ : List (Item 𝓤)} {g : Goal 𝓤 H} → Each E vs → Step K W Γ g (cells 𝓤 E vs Γ) (frees E g)
   freed t [] vs z = free0 t
   freed t (x ∷ E) [] z = absurd z
   freed t (x ∷ E) (v ∷ vs) z = step (λ s. forget t 0 refl $ free1 t $ freed t E vs z $ s)
 
   module _ {Γ : List (Item 𝓤)} {G : Goal 𝓤 H} {κ : Lft} {s : Share} {γ : GName} {b o : ℕ} {P : Fml} {i : Item 𝓤} where
-    -- at entry the first parameter is the lent table; at exit it is so again. P is of the other parameters, i the other tokens
+    -- the lent table is the first parameter, at entry and at exit. P is of the other parameters, i has the other tokens
     pub lent-in : K → (h : Table) → Step K W (Shut 𝓤 κ s b o γ h (‵ P ∷ i ∷ Γ)) G ((‵ (flft κ s) ⊛ i) ∷ ‵ (fsep (MutRef (named 0) κ T.the-row .own (record { ptr = (b, o); name = γ; now = h }) (vptr b o ∷ [])) P) ∷ Γ) G
     lent-in t h = step (λ rest. split t $ move t (2 ∷ []) $ fsplit t $ fsplit3 t $ drop t $ move t (0 ∷ 1 ∷ 3 ∷ 2 ∷ []) $ rest)
 
@@ -107,27 +106,27 @@ module _ {M : Type 1} {𝓤 : URA M} {H : Heap 𝓤} {A : Atoms 𝓤} {K : Type 
     lent-still t h = step (λ rest. feqI t (List Val) (vptr b o ∷ []) (vptr b o ∷ []) refl $ fjoin3 t $ move t (0 ∷ 2 ∷ []) $ fjoin t $ move t (1 ∷ 2 ∷ []) $ join t $ rest)
 
   module _ {Γ : List (Item 𝓤)} {G : Goal 𝓤 H} where
-    -- the core's parameters are a copy of the table and then those that P is of
+    -- the core gets a copy of the table, and then what the call gets beside it
     pub with-table : K → {P : Fml} (h : Table) → IsTable h → Step K W (‵ (fsep (T.the-row .own h (mach h ∷ [])) P) ∷ Γ) G (‵ P ∷ Γ) G
     with-table t h was = step (λ rest. owned t T.the-row (Is T.the-row) (LL.makes T.the-type T′.the-plain 𝓤 H A) h _ was $ fjoin t $ rest)
 
-    -- bytes lent by `&` are had twice: one for the core, one for the exit
+    -- the bytes of a `&[u8]` serve twice: for the core, and at exit
     pub lent-twice : K → {κ : Lft} (x : RefT (List ℕ)) (vs : List Val) → Step K W (‵ (ShrSlice (named 1) κ u8 .own x vs) ∷ ‵ (ShrSlice (named 1) κ u8 .own x vs) ∷ Γ) G (‵ (ShrSlice (named 1) κ u8 .own x vs) ∷ Γ) G
     lent-twice t {κ} x vs = step (λ rest. use1 W (‵ (ShrSlice (named 1) κ u8 .own x vs) ⊛ ‵ (ShrSlice (named 1) κ u8 .own x vs)) (shr-slice-copy 𝓤 H A W (named 1) κ u8 .twice x vs) $ split t $ rest)
 
-    -- the two facts of a contract of two clauses are learned
+    -- a contract of two clauses says two things
     pub heard-both : K → (φ ψ : Type 0) → (φ → ψ → Seq K W Γ G) → Seq K W (raw (sep 𝓤 (fact 𝓤 φ) (fact 𝓤 ψ)) ∷ Γ) G
     heard-both t φ ψ k = use1 W (raw (fact 𝓤 φ) ⊛ raw (fact 𝓤 ψ)) (id⊢ 𝓤 _) $ split t $ heard t φ (λ e. heard t ψ (λ f. k e f))
 
   module _ {Γ : List (Item 𝓤)} {C : Calls 𝓤 H} {Λ : Loops 𝓤 H} {q : Post 𝓤 H} {s : Share} where
-    -- the table behind the reference in `_1` is copied into a local
+    -- `*t` is copied into a local; t is `_1`
     copied : K → {E : Env 𝓤 H} {τ₀ τ₁ : Ty} {l₀ l₁ l k : ℕ} {rest : Body} (h : Table) (b o : ℕ) → IsTable h → spotOf 𝓤 H ((τ₀, l₀) ∷ (τ₁, l₁) ∷ E) k ≡ (T′.mir, l, 0)
         → Step K W (‵ (cellAt s (T.the-row .mir) (mach h ∷ []) b o) ∷ ‵ (fat fullShare τ₁ l₁ 0 (vptr b o)) ∷ ‵ (fat fullShare T′.mir l 0 (mach h)) ∷ Γ) (runs C Λ ((τ₀, l₀) ∷ (τ₁, l₁) ∷ E) rest q)
         (‵ (cellAt s (T.the-row .mir) (mach h ∷ []) b o) ∷ ‵ (fat fullShare τ₁ l₁ 0 (vptr b o)) ∷ ‵ (froom T′.mir l 0) ∷ Γ) (runs C Λ ((τ₀, l₀) ∷ (τ₁, l₁) ∷ E) (seq (assign (place k []) (rvOpd (copy (place 1 (deref T′.mir ∷ []))))) rest) q)
     copied t h b o was e = assigns t (of-opd t (load t (from t (hop t (look t 1 refl) (stop t))) (look-raw t 0 refl))) (at-local t e (stop t)) (init t 2 refl (LL.lawful T.the-type T′.the-laws 𝓤 H A W .typed h _ was .0))
 
   module _ {Γ : List (Item 𝓤)} {C : Calls 𝓤 H} {Λ : Loops 𝓤 H} {q : Post 𝓤 H} {κ : Lft} {s : Share} where
-    -- that table was lent by `&mut`: the borrow is opened
+    -- the same of a `&mut Table`, whose borrow stays open for the store that follows
     pub lent-out : K → {E : Env 𝓤 H} {γ : GName} {τ₀ τ₁ : Ty} {l₀ l₁ l k : ℕ} {rest : Body} (h : Table) (b o : ℕ) → spotOf 𝓤 H ((τ₀, l₀) ∷ (τ₁, l₁) ∷ E) k ≡ (T′.mir, l, 0)
         → (IsTable h → Seq K W (Opened 𝓤 κ s b o γ h (‵ (fat fullShare τ₁ l₁ 0 (vptr b o)) ∷ ‵ (fat fullShare T′.mir l 0 (mach h)) ∷ Γ)) (runs C Λ ((τ₀, l₀) ∷ (τ₁, l₁) ∷ E) rest q))
         → Seq K W (Shut 𝓤 κ s b o γ h (‵ (fat fullShare τ₁ l₁ 0 (vptr b o)) ∷ ‵ (froom T′.mir l 0) ∷ Γ)) (runs C Λ ((τ₀, l₀) ∷ (τ₁, l₁) ∷ E) (seq (assign (place k []) (rvOpd (copy (place 1 (deref T′.mir ∷ []))))) rest) q)
@@ -135,7 +134,7 @@ module _ {M : Type 1} {𝓤 : URA M} {H : Heap 𝓤} {A : Atoms 𝓤} {K : Type 
         opens t tt T.the-row {h = h} b o (λ vs. spelt t T.the-row (Is T.the-row) (shows 𝓤 H A T.the-row) (LL.vals T.the-type T′.the-laws) (LL.tells T.the-type T′.the-laws) fullShare h vs b o $
         move t (1 ∷ []) $ peeks t T.the-row (Is T.the-row) (shows 𝓤 H A T.the-row) h (mach h ∷ []) (λ was. move t (1 ∷ 5 ∷ 6 ∷ []) $ copied t h b o was e $ move t (0 ∷ 3 ∷ 4 ∷ 5 ∷ 6 ∷ 1 ∷ 2 ∷ []) $ go was))
 
-    -- or by `&`: a share of it is looked at, and given back
+    -- and of a `&Table`, which is done with
     pub shown-out : K → {E : Env 𝓤 H} {τ₀ τ₁ : Ty} {l₀ l₁ l k : ℕ} {rest : Body} (h : Table) (b o : ℕ) → spotOf 𝓤 H ((τ₀, l₀) ∷ (τ₁, l₁) ∷ E) k ≡ (T′.mir, l, 0)
         → (IsTable h → Seq K W (‵ (flft κ s) ∷ ‵ (fshr-bor κ (λ u. partAt T.the-row u h b o)) ∷ ‵ (fat fullShare τ₁ l₁ 0 (vptr b o)) ∷ ‵ (fat fullShare T′.mir l 0 (mach h)) ∷ Γ) (runs C Λ ((τ₀, l₀) ∷ (τ₁, l₁) ∷ E) rest q))
         → Seq K W (‵ (fshr-bor κ (λ u. partAt T.the-row u h b o)) ∷ ‵ (flft κ s) ∷ ‵ (fat fullShare τ₁ l₁ 0 (vptr b o)) ∷ ‵ (froom T′.mir l 0) ∷ Γ)
@@ -147,7 +146,7 @@ module _ {M : Type 1} {𝓤 : URA M} {H : Heap 𝓤} {A : Atoms 𝓤} {K : Type 
         move t (0 ∷ 3 ∷ 4 ∷ []) $ shuts t tt T.the-row u h (mach h ∷ []) b o $ move t (0 ∷ 3 ∷ 1 ∷ 2 ∷ []) $ go was))
 
   module _ {Γ : List (Item 𝓤)} {C : Calls 𝓤 H} {Λ : Loops 𝓤 H} where
-    -- a slice is lent again: its pointer goes into one local, pointer and length into another
+    -- a `&mut [u8]` parameter is lent on to the core: `&mut *out`, by way of two locals
     pub lent-again : K → {E : Env 𝓤 H} {q : Post 𝓤 H} {ν : Sym} {ℓ ℓ′ : Lifetime} {σ : Ty} {l lᵢ lⱼ k i j b o n : ℕ} {rest : Body} → n < 2 ^ 64
         → spotOf 𝓤 H E k ≡ (tyStruct ν (tcons (tyRef ℓ mut σ) (tcons (tyInt w64) tnil)), l, 0) → spotOf 𝓤 H E i ≡ (tyRef ℓ′ mut σ, lᵢ, 0) → spotOf 𝓤 H E j ≡ (tyStruct ν (tcons (tyRef ℓ′ mut σ) (tcons (tyInt w64) tnil)), lⱼ, 0)
         → Step K W (‵ (fat fullShare (tyStruct ν (tcons (tyRef ℓ mut σ) (tcons (tyInt w64) tnil))) l 0 (sliceVal (b, o) n)) ∷ ‵ (fat fullShare (tyRef ℓ′ mut σ) lᵢ 0 (vptr b o))
@@ -159,7 +158,7 @@ module _ {M : Type 1} {𝓤 : URA M} {H : Heap 𝓤} {A : Atoms 𝓤} {K : Type 
         assigns t (agg t (and-then t (load t (at-local t eᵢ (stop t)) (look t 1 refl)) (and-then t (load t (at-local t e (fld t refl (stop t))) (look-in t 0 (sub t 1 refl (whole t)))) (no-more t)))) (at-local t eⱼ (stop t))
         (init t 2 refl (tt, (tt, (record { fits = fits }, tt)))) $ s)
 
-    -- the result v of a call is stored in a local, its table behind the reference in `_1`, and its answer is returned; the borrow is shut at the new table
+    -- `let n = v; *t = n.table; n.answer`: the borrow is closed at the new table
     stored-back : K → {E : Env 𝓤 H} {Kf : Val → SProp 𝓤} {κ : Lft} {s : Share} {γ : GName} {τ₀ τ₁ : Ty} {l₀ l₁ l k : ℕ} {ν : Sym} (h : Table) {h′ : Table} {a v : Val} (b o : ℕ)
         → Result ν τ₀ h′ a v → spotOf 𝓤 H ((τ₀, l₀) ∷ (τ₁, l₁) ∷ E) k ≡ (pairTy ν τ₀, l, 0)
         → Step K W (Shut 𝓤 κ s b o γ h′ (‵ (fat fullShare τ₀ l₀ 0 a) ∷ ‵ (fat fullShare τ₁ l₁ 0 (vptr b o)) ∷ ‵ (fat fullShare (pairTy ν τ₀) l 0 (pairVal h′ a)) ∷ Γ)) (frees ((τ₀, l₀) ∷ (τ₁, l₁) ∷ E) (prop (Kf a)))
@@ -173,7 +172,7 @@ module _ {M : Type 1} {𝓤 : URA M} {H : Heap 𝓤} {A : Atoms 𝓤} {K : Type 
         move t (1 ∷ []) $ drop t $ owned t T.the-row (Is T.the-row) (LL.makes T.the-type T′.the-plain 𝓤 H A) h′ _ (is .table) $ move t (1 ∷ 0 ∷ []) $ closes t tt T.the-row h′ (mach h′ ∷ []) b o $
         returns t (look t 3 refl) $ rest)
 
-    -- a call of a function that asks for no more than its types own, which i is: once it has returned v, its result r is owned, and what it ensures holds at some last values
+    -- a function is called that has no `requires`. i is what its parameters own; it returns r as v, and leaves ws in what was lent to it
     pub called : K → {E : Env 𝓤 H} {q : Post 𝓤 H} {f : Name} {xs : List Operand} {d : Place} {rest : Body} {i : Item 𝓤} → FmC 𝓤 H (W .laws) C → (F : Ended) (c : Clauses 𝓤 F) → Triple 𝓤 (C f) (tripleOf 𝓤 H A (F .signature) (closing 𝓤 H A F c))
         → (y : tripleOf 𝓤 H A (F .signature) (closing 𝓤 H A F c) .Ghost)
         → ent 𝓤 (mean 𝓤 H A i) (onEntry 𝓤 H A (F .signature) (y .0 .0) (y .0 .1) (y .0 .3) (y .0 .4)) → ent 𝓤 (emp 𝓤) (c (y .0 .0) (y .0 .3) .requires (y .1))
@@ -189,7 +188,7 @@ module _ {M : Type 1} {𝓤 : URA M} {H : Heap 𝓤} {A : Atoms 𝓤} {K : Type 
         ⊛ some (λ (ws : Lasts F (y .0 .0) (y .0 .3)). ‵ (lasts F (y .0 .0) (y .0 .3) ws) ⊛ raw (c (y .0 .0) (y .0 .3) .ensures (y .1) r (atExit F (y .0 .0) (y .0 .3) ws)))))) (id⊢ 𝓤 _) $ await t tt $ pick t (λ r.
         split t $ split t $ move t (2 ∷ []) $ pick t (λ ws. split t $ move t (1 ∷ 0 ∷ 3 ∷ 2 ∷ []) $ go v r ws)))
 
--- ---- a result: a struct of a table and an answer, which is an enum
+-- ---- the core's results: structs of a table and an answer, all alike but for name and answer
 abbrev both : (B : Enums.Declared) → Table → B .D → Denots (rows (T.the-field ∷ Enums.field B ∷ []))
 both B h x = (T.the-type .to h, (B .to x, tt))
 
@@ -209,7 +208,7 @@ module _ (name : Sym) (B : Enums.Declared) (L : LL.FLaws (Enums.field B)) (D : T
   answer-is : (r : D) (vs : List Val) → Is (Structs.row pair) r vs → Is (Enums.row B) (answer r) (answerVal r ∷ [])
   answer-is r vs is = LL.owed pair laws r vs is .1 .0
 
-  -- what owning a result says of its parts
+  -- a result that is owned
   result : {M : Type 1} (𝓤 : URA M) (H : Heap 𝓤) (A : Atoms 𝓤) (W : Given 𝓤 H A) (r : D) (v : Val) → Is (Structs.row pair) r (v ∷ []) → Result name answerTy (table r) (answerVal r) v
   result 𝓤 H A W r v is = record {
     typed = LL.lawful pair laws 𝓤 H A W .typed r _ is .0;
@@ -219,7 +218,7 @@ module _ (name : Sym) (B : Enums.Declared) (L : LL.FLaws (Enums.field B)) (D : T
   }
 
   module _ {M : Type 1} {𝓤 : URA M} {H : Heap 𝓤} {A : Atoms 𝓤} {K : Type 0} {W : Given 𝓤 H A} {Γ : List (Item 𝓤)} {C : Calls 𝓤 H} {Λ : Loops 𝓤 H} where
-    -- the core has returned the result r: its table is stored back, and its answer returned
+    -- the core returned r: its table is stored, and its answer returned
     pub handed-back : K → {E : Env 𝓤 H} {Kf : Val → SProp 𝓤} {κ : Lft} {s : Share} {γ : GName} {τ₁ : Ty} {l₀ l₁ l k : ℕ} (h : Table) (b o : ℕ) (r : D) (v : Val) → Plainss (Enums.variants B)
         → spotOf 𝓤 H ((answerTy, l₀) ∷ (τ₁, l₁) ∷ E) k ≡ (pairTy name answerTy, l, 0)
         → Step K W (‵ (Enums.row B .own (answer r) (answerVal r ∷ [])) ∷ Shut 𝓤 κ s b o γ (table r)

@@ -17,7 +17,7 @@ use Rattle.reads_demands.specs.History.{Call, opening, taking, withdrawing, ask
 use Rattle.reads_demands.specs.Demand3.{next, answered, left, outputLeft, run, answers, Demand3}
 use Rattle.reads_in_place.specs.LentTable.{OpenLeaves, TakeLeaves, WithdrawLeaves, OwedLeaves}
 
--- a call on a lent table t, with its answer: the table t′, store and output that it leaves, by its contract
+-- a call on a lent table t, with its answer: the table t′, store and output that it leaves, by its contract; what is lent by `&` stays as it is
 pub data Leaves : Table → Call → Event → Table → Option (List ℕ) → List ℕ → Type 0 where
   opens : {t t′ : Table} {q : ReadRequest} {tag : ℕ} {store out out′ : List ℕ} {x : OpenAnswer} → OpenLeaves t q tag store out x t′ out′ → Leaves t (opening q tag store out) (openEvent q tag store out x) t′ (some store) out′
   takes : {t t′ : Table} {b store store′ : List ℕ} {x : TakeAnswer} → TakeLeaves t b store x t′ store′ → Leaves t (taking b store) (takeEvent b store x) t′ (some store′) []

@@ -1,5 +1,4 @@
 -- `open` meets its contract. The walk copies the lent table out, lends the output again, calls the core's `open`, stores its table back and returns its answer.
--- Assumes nothing.
 use mathlib.Core.Path.{_≡_, refl}
 use Prim.Native.Nat.{ℕ, _<_, _^_}
 use mathlib.Core.List.{[], _∷_, List}
@@ -56,7 +55,7 @@ use Rattle.reads_in_place.proofs.«open».Code as code
 abbrev stayed : Stays (opened.ended .signature .params) (opened.ended .kept)
 stayed = (stay-ref (0 ∷ []) tt (plain (λ _. T.the-row)), (stay-none (λ _. Q.the-row) yes, (stay-none (λ _. u32) yes, (stay-none-slice (1 ∷ []) tt (plain (λ _. u8)) yes, (gave-slice (2 ∷ []) tt (plain (λ _. u8)), tt)))))
 
--- the machine value of a request
+-- a request in memory is this one value
 abbrev asked : ReadRequest → Val
 asked p = LL.val Q.the-type Q′.the-laws p
 
@@ -68,7 +67,7 @@ module _ {M : Type 1} (𝓤 : URA M) (H : Heap 𝓤) (A : Atoms 𝓤) (at-mem : 
     abbrev x : RefT Table × (ReadRequest × (ℕ × (RefT (List ℕ) × (RefT (List ℕ) × Unit {0}))))
     x = (record { ptr = (b, o); name = γ; now = h }, (p, (n, (store, (out, tt)))))
 
-    -- the slices' machine values
+    -- the two slices in memory
     abbrev s₁ : Val
     s₁ = sliceVal (store .ptr) (length (store .now))
 

@@ -1,5 +1,4 @@
 -- `owed` meets its contract. The walk copies the table out that is lent to read, and returns what the core's `owed` answers.
--- Assumes nothing.
 use mathlib.Core.Path.{_≡_, refl}
 use Prim.Native.Nat.{ℕ}
 use mathlib.Core.List.{[], _∷_, List}

@@ -1,5 +1,4 @@
 -- `take` meets its contract. The walk copies the lent table out, lends the store again, calls the core's `take`, stores its table back and returns its answer.
--- Assumes nothing.
 use mathlib.Core.Path.{_≡_, refl}
 use Prim.Native.Nat.{ℕ}
 use mathlib.Core.List.{[], _∷_, List}
@@ -58,7 +57,7 @@ module _ {M : Type 1} (𝓤 : URA M) (H : Heap 𝓤) (A : Atoms 𝓤) (at-mem : 
     abbrev x : RefT Table × (RefT (List ℕ) × (RefT (List ℕ) × Unit {0}))
     x = (record { ptr = (b, o); name = γ; now = h }, (bytes, (store, tt)))
 
-    -- the slices' machine values
+    -- the two slices in memory
     abbrev s₁ : Val
     s₁ = sliceVal (bytes .ptr) (length (bytes .now))
 
