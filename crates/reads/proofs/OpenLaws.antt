@@ -29,9 +29,10 @@ use Rattle.reads.specs.declared.table.Table.{Table}
 use Rattle.reads.specs.declared.table.View.{View}
 use Rattle.reads.specs.declared.answer.OpenAnswer.{OpenAnswer}
 use Rattle.reads.specs.declared.answer.OpenAnswer.the-variants.{Opened, Refused}
-use Rattle.reads.specs.Tables.{tagLimit, stateAt, validTable, viewOf, putState}
+use Rattle.reads.specs.Tables.{tagLimit, stateAt, validTable}
 use Rattle.reads.proofs.TableLaws.{limit-fits, put-same, put-there}
-use Rattle.reads.specs.OpenCall.{headerPacket, earlyRows, earlySeen, openRows, openAnswer, headerAnswer, recordOpened, tableOpened, openCall, outGiven, openOut}
+use Rattle.reads.specs.OpenCall.{headerPacket, earlyRows, openRows, openAnswer, tableOpened, openCall, outGiven, openOut}
+use Rattle.reads.specs.Steps.{viewOf, putState, earlySeen, headerAnswer, recordOpened}
 
 -- ---- the rows before 12
 

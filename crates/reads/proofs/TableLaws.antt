@@ -26,8 +26,9 @@ use Rattle.reads.specs.declared.answer.WithdrawAnswer.{WithdrawAnswer}
 use Rattle.reads.specs.declared.answer.WithdrawAnswer.the-variants.{Withdrawn, Refused}
 use Rattle.reads.specs.declared.answer.OwedAnswer.the-variants.{Owed, Refused as OwedRefused}
 use Rattle.reads.specs.declared.answer.MakeAnswer.the-variants.{Made, Refused as MakeRefused}
-use Rattle.reads.specs.Tables.{tagLimit, newTable, stateAt, withState, validTable, viewOf, putState}
-use Rattle.reads.specs.OtherCalls.{makeCall, withdrawRules, withdrawRows, withdrawAnswer, recordWithdrawn, withdrawGives, withdrawCall, owedCall}
+use Rattle.reads.specs.Tables.{tagLimit, newTable, stateAt, withState, validTable}
+use Rattle.reads.specs.OtherCalls.{makeCall, withdrawRules, withdrawRows, withdrawAnswer, withdrawGives, withdrawCall, owedCall}
+use Rattle.reads.specs.Steps.{viewOf, putState, recordWithdrawn}
 
 -- today as many tags as there are slots
 pub limit-fits : (s : Settings) → tagLimit s ≤ capacity

@@ -30,11 +30,12 @@ use Rattle.reads.specs.declared.table.View.{View}
 use Rattle.reads.specs.declared.take.Outcome.{Outcome}
 use Rattle.read_answers.specs.declared.TakeAnswer.{TakeAnswer}
 use Rattle.read_answers.specs.declared.TakeAnswer.the-variants.{More, Done, Failed, Poisoned, Unread, Refused}
-use Rattle.reads.specs.Tables.{tagLimit, stateAt, validTable, viewOf, putState}
+use Rattle.reads.specs.Tables.{tagLimit, stateAt, validTable}
 use Rattle.reads.proofs.TableLaws.{state-over, put-same, put-there}
 use Rattle.read_answers.specs.Takes.{noRead, readIn, tagOf, pieceRows, outcome, numberOr, packetAnswer}
 use Rattle.read_answers.proofs.TakeLaws.{answer-other}
-use Rattle.reads.specs.TakeCall.{advanced, tableGiven, recordGiven, storeGiven, packetTaking, packetStore, answerTaking, answerStore, packetOutcome, answerOutcome, takeOutcome, packetLaid, answerLaid, takeLaid, takeCall, takeStore}
+use Rattle.reads.specs.TakeCall.{advanced, tableGiven, storeGiven, packetTaking, packetStore, answerTaking, answerStore, takeCall, takeStore}
+use Rattle.reads.specs.Steps.{viewOf, putState, recordGiven, packetOutcome, answerOutcome, takeOutcome, packetLaid, answerLaid, takeLaid}
 
 -- ---- what an answer does to table and store
 

@@ -8,8 +8,6 @@ use Rattle.scan.specs.Scans.{anyOf}
 use Rattle.tlp.specs.Rows.{Row, row, first}
 use Rattle.tlp_write.specs.Layout.{bytesOf, sizeOf}
 use Rattle.tlp_write.specs.Write.{overFront}
-use Rattle.tlp_write.specs.declared.WriteAnswer.{WriteAnswer}
-use Rattle.tlp_write.specs.declared.WriteAnswer.the-variants.{Written, Refused as Unwritten}
 use Rattle.tlp.specs.declared.packet.Packet.{Packet}
 use Rattle.read_rules.specs.declared.request.ReadRequest.{ReadRequest}
 use Rattle.read_rules.specs.declared.continuation.Origin.{Origin}
@@ -20,7 +18,6 @@ use Rattle.read_slots.specs.declared.State.the-variants.{Open}
 use Rattle.read_slots.specs.Slots.{isOpen, sharesWith}
 use Rattle.reads.specs.declared.table.Table.{Table}
 use Rattle.reads.specs.declared.table.Opening.{Opening}
-use Rattle.reads.specs.declared.table.View.{View}
 use Rattle.reads.specs.declared.answer.OpenAnswer.{OpenAnswer}
 use Rattle.reads.specs.declared.answer.OpenAnswer.the-variants.{Opened, Refused}
 use Rattle.reads.specs.Tables.{tagLimit, stateAt, withState, validTable}
@@ -39,15 +36,6 @@ earlyRules o x shared q tag room =
     ∷ (placeRows (o .settings) q room
     ++ (row 24 shared
     ∷ [])))
-
--- the rows before 24, with 11 first, from what a call looks at
-abbrev pub earlySeen : View → ReadRequest → ℕ → ℕ → List Row
-earlySeen v q tag room =
-    row 11 (not (v .valid))
-    ∷ (requestRows q
-    ++ (row 20 (leb (tagLimit (v .origin .settings)) tag)
-    ∷ row 21 (isOpen (v .state))
-    ∷ placeRows (v .origin .settings) q room))
 
 -- the last is 12, of the header; space is the output's length
 abbrev pub openRules : Origin → State → Bool → ReadRequest → ℕ → ℕ → ℕ → List Row
@@ -70,17 +58,6 @@ openAnswer (suc n) size = Refused (suc n)
 abbrev pub tableOpened : OpenAnswer → Table → ReadRequest → ℕ → Table
 tableOpened (Opened size) t q tag = withState t tag (Open (record { request = q; taken = 0 }))
 tableOpened (Refused n) t q tag = t
-
--- the tag's record afterwards; x is the one before
-abbrev pub recordOpened : OpenAnswer → ReadRequest → State → State
-recordOpened (Opened size) q x = Open (record { request = q; taken = 0 })
-recordOpened (Refused n) q x = x
-
--- the answer from the number of the rows before 12 and what the writer says of the header
-abbrev pub headerAnswer : ℕ → WriteAnswer → OpenAnswer
-headerAnswer zero (Written size) = Opened size
-headerAnswer zero (Unwritten r) = Refused (r .number)
-headerAnswer (suc n) x = Refused (suc n)
 
 abbrev pub openGives : OpenAnswer → Table → ReadRequest → ℕ → Opening
 openGives x t q tag = record { table = tableOpened x t q tag; answer = x }

@@ -46,11 +46,6 @@ abbrev pub tableWithdrawn : WithdrawAnswer → Table → ℕ → Table
 tableWithdrawn Withdrawn t tag = withState t tag Free
 tableWithdrawn (Refused n) t tag = t
 
--- the tag's record afterwards, from the number; x is the one before
-abbrev pub recordWithdrawn : ℕ → State → State
-recordWithdrawn zero x = Free
-recordWithdrawn (suc n) x = x
-
 abbrev pub withdrawGives : WithdrawAnswer → Table → ℕ → Withdrawal
 withdrawGives x t tag = record { table = tableWithdrawn x t tag; answer = x }
 

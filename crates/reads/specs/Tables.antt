@@ -13,7 +13,6 @@ use Rattle.read_slots.specs.declared.State.the-variants.{Free}
 use Rattle.read_slots.specs.Slots.{freeSlot, validSlot}
 pub use Rattle.read_slots.specs.Slots.{capacity}
 use Rattle.reads.specs.declared.table.Table.{Table}
-use Rattle.reads.specs.declared.table.View.{View}
 
 -- the tags that may be opened are those below: "Tags run 0 to 31."
 unfoldable pub tagLimit : Settings → ℕ
@@ -34,11 +33,3 @@ withState t tag x = record { origin = t .origin; slots = set (t .slots) tag (rec
 -- what 11 denies: "a table with a setting off the list, or an open record whose fields open would refuse .."
 unfoldable pub validTable : Table → Bool
 validTable t = settingsListed (t .origin .settings) && allOf (validSlot (t .origin .settings)) (t .slots)
-
--- what a call looks at: what the table was made from, whether it is valid, and one tag's record
-abbrev pub viewOf : Table → ℕ → View
-viewOf t tag = record { origin = t .origin; valid = validTable t; state = stateAt t tag }
-
--- the table with one tag's record put in; a tag over the limit has none
-unfoldable pub putState : Table → ℕ → State → Table
-putState t tag x = pick (ltb tag (tagLimit (t .origin .settings))) (withState t tag x) t

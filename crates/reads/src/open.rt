@@ -28,7 +28,8 @@ ghost use Rattle.scan.specs.Scans.{anyOf};
 ghost use Rattle.tlp.specs.Rows.{row, first};
 ghost use Rattle.tlp_write.specs.Write.{writePacket, writeOut};
 ghost use Rattle.read_slots.specs.Slots.{sharesWith};
-ghost use Rattle.reads.specs.OpenCall.{headerPacket, earlySeen, recordOpened, headerAnswer, openCall, openOut};
+ghost use Rattle.reads.specs.OpenCall.{headerPacket, openCall, openOut};
+ghost use Rattle.reads.specs.Steps.{earlySeen, recordOpened, headerAnswer};
 
 // The first that holds of open's rows before 24; 0 where none does.
 fn early_number(v: View, q: ReadRequest, tag: u32, room: u64) -> u32

@@ -20,8 +20,9 @@ ghost use Prim.Native.Nat.{_<_};
 ghost use lib.Dec.{ltb};
 ghost use Rattle.bits.specs.Choice.{pick};
 ghost use Rattle.tlp.specs.Rows.{row, first};
-ghost use Rattle.reads.specs.Tables.{capacity, tagLimit, newTable, viewOf, putState};
-ghost use Rattle.reads.specs.OtherCalls.{makeCall, withdrawRules, withdrawAnswer, recordWithdrawn, withdrawCall, owedCall};
+ghost use Rattle.reads.specs.Tables.{capacity, tagLimit, newTable};
+ghost use Rattle.reads.specs.OtherCalls.{makeCall, withdrawRules, withdrawAnswer, withdrawCall, owedCall};
+ghost use Rattle.reads.specs.Steps.{viewOf, putState, recordWithdrawn};
 
 // Fields are public, so that a table that no call reaches can be made and tried.
 pub struct Table {

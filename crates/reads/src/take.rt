@@ -20,7 +20,8 @@ ghost use mathlib.Core.Path.{_≡_};
 ghost use Prim.Native.Nat.{_+_, _≤_};
 ghost use lib.ListN.{length};
 ghost use Rattle.read_answers.specs.Takes.{readIn};
-ghost use Rattle.reads.specs.TakeCall.{advanced, recordGiven, storeGiven, packetOutcome, takeOutcome, packetLaid, takeLaid, takeCall, takeStore};
+ghost use Rattle.reads.specs.TakeCall.{advanced, storeGiven, takeCall, takeStore};
+ghost use Rattle.reads.specs.Steps.{recordGiven, packetOutcome, takeOutcome, packetLaid, takeLaid};
 
 // A record after n doublewords more.
 fn advance(x: State, n: u32) -> State

@@ -5,7 +5,8 @@ use lib.ListN.{length, drop}
 use Rattle.scan.specs.Scans.{allOf}
 use Rattle.scan.proofs.ScanLaws.{length-of, scan-laws}
 use Rattle.read_slots.specs.Slots.{validSlot}
-use Rattle.reads.specs.Tables.{capacity, viewOf}
+use Rattle.reads.specs.Tables.{capacity}
+use Rattle.reads.specs.Steps.{viewOf}
 use Rattle.reads.proofs.TableLaws.{view-laws}
 use borrow.Author.Needs.{needs}
 use Rattle.reads.proofs.table.view_of.Statement.{statement}
