@@ -46,7 +46,7 @@ use Rattle.reads.proofs.table.Table.Laws as T′
 abbrev pub mach : Table → Val
 mach h = LL.val T.the-type T′.the-laws h
 
-abbrev IsTable : Table → Type 0
+abbrev pub IsTable : Table → Type 0
 IsTable h = Is T.the-row h (mach h ∷ [])
 
 -- a result in memory: the table, then the answer
