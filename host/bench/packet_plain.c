@@ -6,6 +6,8 @@
 #include <stdbool.h>
 #include <string.h>
 
+#include "plain_rules.h"
+
 /* The numbers of document 01. */
 enum {
     TOO_SHORT = 1,
@@ -59,7 +61,6 @@ enum {
 
 #define HEADER_3DW 12u
 #define HEADER_4DW 16u
-#define PAGE 4096u /* no memory request crosses a multiple of it */
 #define MAX_LENGTH 1024u
 #define MAX_BYTE_COUNT 4096u
 
@@ -106,32 +107,6 @@ static inline void store64(uint8_t *to, uint64_t number)
 /* ---------------------------------------------------------------------------------------------
  * Rules of both directions
  * ------------------------------------------------------------------------------------------- */
-
-static inline bool size_allowed(uint32_t size)
-{
-    return size >= 128 && size <= 4096 && (size & (size - 1)) == 0;
-}
-
-static inline bool settings_allowed(uint32_t mps, uint32_t mrrs, uint32_t rcb)
-{
-    return size_allowed(mps) && size_allowed(mrrs) && (rcb == 64 || rcb == 128);
-}
-
-/* Byte enables; holes are permitted at lengths 1 and 2 only. */
-static inline bool enables_allowed(uint32_t length, uint32_t first, uint32_t last)
-{
-    if (length == 1)
-        return last == 0;
-    if (length == 2)
-        return first != 0 && last != 0;
-    return (first == 0xf || first == 0xe || first == 0xc || first == 0x8) &&
-           (last == 0xf || last == 0x7 || last == 0x3 || last == 0x1);
-}
-
-static inline bool crosses_page(uint32_t low_address, uint32_t length)
-{
-    return low_address % PAGE + 4 * length > PAGE;
-}
 
 /* Msg and Cpl have no length: the field is reserved there. */
 static inline bool has_length(uint32_t kind)

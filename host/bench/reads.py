@@ -1,9 +1,9 @@
 #!/usr/bin/env python3
 """Measures the proved table beside a plain C one that does the same checks (reads_plain.c, cc -O2).
 
-A table holds an enum, so it cannot cross to C: the calls are repeated inside a proved program
-(crates/reads_bench) and inside a C one (reads_turns.c), each timed as a process with an empty run
-subtracted, side by side in every round.  A turn opens a read and takes it whole, or withdraws it.
+A table holds an enum, so it cannot cross to C: the calls are repeated inside proved programs
+(crates/turns_by_value, crates/turns_in_place) and inside a C one (reads_turns.c), each timed as a
+process with an empty run subtracted, side by side in every round.  A turn opens a read and takes it whole, or withdraws it.
 Printed are medians of the ratios: the proved time for one of plain C's, by value and in place; then how
 a turn in place grows with the reads that are open and with the turns that went before.
 
@@ -23,7 +23,7 @@ sys.dont_write_bytecode = True
 
 ROOT = Path(__file__).resolve().parent.parent.parent
 BENCH = ROOT / "host" / "bench"
-PROVED = ROOT / "target" / "bin" / "reads_bench"
+PROVED = {"value": "turns_by_value", "place": "turns_in_place"}
 FLAGS = ("-std=c11", "-O2", "-Wall", "-Wextra", "-Werror")
 SOURCES = ("reads_turns.c", "reads_plain.c", "packet_plain.c")
 
@@ -42,12 +42,13 @@ def run_checked(command, what):
 
 
 def build(folder):
-    """The two programs: the words that start each, by the first word of its lines."""
+    """The three programs."""
     plain = str(Path(folder) / "reads_turns")
     run_checked(["cc", *FLAGS, "-o", plain, *(str(BENCH / name) for name in SOURCES)],
                 "the plain C program does not build")
-    run_checked(["rt", "check", "reads_bench"], "reads_bench is not proved or not built")
-    return {"plain": plain, "value": str(PROVED), "place": str(PROVED)}
+    run_checked(["rt", "check", *PROVED.values()], "the proved programs are not proved or not built")
+    return {"plain": plain,
+            **{way: str(ROOT / "target" / "bin" / name) for way, name in PROVED.items()}}
 
 
 def timed(program, line):
@@ -65,7 +66,7 @@ class Bench:
 
     def turn(self, way, kind, opened, size, turns=TURNS):
         """Seconds for a turn, an empty run subtracted, and what was printed."""
-        line = "%s %s others=%d size=%d turns=%%d\n" % (way, kind, opened - 1, size)
+        line = "%s others=%d size=%d turns=%%d\n" % (kind, opened - 1, size)
         whole, printed = timed(self.programs[way], line % turns)
         empty, _ = timed(self.programs[way], line % 0)
         return max(whole - empty, 1e-9) / turns, printed

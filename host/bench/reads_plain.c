@@ -6,30 +6,13 @@
 #include <string.h>
 
 #include "packet_plain.h"
+#include "plain_rules.h"
 
-/* ---- settings */
-
-static bool size_listed(uint32_t size)
-{
-    return size >= 128 && size <= 4096 && (size & (size - 1)) == 0;
-}
+/* ---- settings and byte enables */
 
 static bool settings_listed(const struct plain_table *table)
 {
-    return size_listed(table->mps) && size_listed(table->mrrs) &&
-           (table->rcb == 64 || table->rcb == 128);
-}
-
-/* ---- byte enables */
-
-static bool enables_allowed(uint32_t length, uint32_t first, uint32_t last)
-{
-    if (length == 1)
-        return last == 0;
-    if (length == 2)
-        return first != 0 && last != 0;
-    return (first == 0xf || first == 0xe || first == 0xc || first == 0x8) &&
-           (last == 0xf || last == 0x7 || last == 0x3 || last == 0x1);
+    return settings_allowed(table->mps, table->mrrs, table->rcb);
 }
 
 static uint32_t off_of(const struct plain_request *request)
@@ -54,7 +37,7 @@ static uint32_t request_fault(const struct plain_request *request)
         return 6;
     if (!enables_allowed(request->length, request->first, request->last))
         return 7;
-    if (request->address % 4096 + 4 * request->length > 4096)
+    if (crosses_page((uint32_t)request->address, request->length))
         return 8;
     return 0;
 }

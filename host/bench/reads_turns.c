@@ -1,7 +1,7 @@
-/* Turns of calls on the plain C table (reads_plain.c), to be timed beside crates/reads_bench: the same
- * lines of input, with the word `plain` in front, and the same lines of output.
+/* Turns of calls on the plain C table (reads_plain.c), to be timed beside crates/turns_by_value and
+ * crates/turns_in_place: the same lines of input, and the same lines of output.
  *
- *     plain take|withdraw others=N size=N turns=N
+ *     take|withdraw others=N size=N turns=N
  *
  * A turn opens a read of `size` bytes on tag 0, and takes it whole with one completion or withdraws it;
  * `others` reads are open on the tags above.
@@ -103,7 +103,7 @@ int main(void)
     while (fgets(line, sizeof line, stdin) != NULL) {
         struct work work;
         unsigned others, size, turns;
-        if (sscanf(line, "plain %15s others=%u size=%u turns=%u", word, &others, &size, &turns) != 4 ||
+        if (sscanf(line, "%15s others=%u size=%u turns=%u", word, &others, &size, &turns) != 4 ||
             others > 31 || size == 0 || size > MOST_BYTES || size % 4 != 0) {
             puts("bad");
             continue;

@@ -1,0 +1,55 @@
+use Prim.Native.Nat.{_≤_, _-_}
+use mathlib.Core.Path.{_≡_}
+use lib.ListN.{length}
+use borrow.Author.Needs.{needs}
+use Rattle.reads_turns.proofs.by_value.run_turns.Statement.{statement}
+use Rattle.reads_turns.proofs.by_value.run_turns.Tie as tie
+
+abbrev Inv-loop : tie.InvT-loop
+Inv-loop takes turns q bytes room store₀ out₀ u₀ code₀ i₀ store out u code i = (i ≤ turns) × ((length store ≡ length store₀) × (length out ≡ length out₀))
+
+abbrev μ-loop : tie.MeasureT-loop
+μ-loop takes turns q bytes room store₀ out₀ u₀ code₀ i₀ store out u code i = turns - i
+
+loop-holds : tie.Need-loop-holds Inv-loop μ-loop
+loop-holds c = search needs
+
+add-i : tie.Need-add-i Inv-loop μ-loop
+add-i c = search needs
+
+open-requires : tie.Need-open-requires Inv-loop μ-loop
+open-requires c κs = search needs
+
+end-turn-requires : tie.Need-end-turn-requires Inv-loop μ-loop
+end-turn-requires c κs = search needs
+
+loop-less : tie.Need-loop-less Inv-loop μ-loop
+loop-less c = search needs
+
+loop-again : tie.Need-loop-again Inv-loop μ-loop
+loop-again c = search needs
+
+same-length : tie.Need-same-length Inv-loop μ-loop
+same-length c = search needs
+
+same-length-2 : tie.Need-same-length-2 Inv-loop μ-loop
+same-length-2 c = search needs
+
+returns : tie.Need-returns Inv-loop μ-loop
+returns c = search needs
+
+pub run-turns-spec : {M : Type 1} → statement M
+run-turns-spec =
+    tie.close
+    (tie.spec
+    Inv-loop
+    μ-loop
+    loop-holds
+    add-i
+    open-requires
+    end-turn-requires
+    loop-less
+    loop-again
+    same-length
+    same-length-2
+    returns)

@@ -1,0 +1,71 @@
+// A line of input: `take|withdraw others=N size=N turns=N`.
+use text::fields::Field;
+use text::fields::decimal_after;
+use text::fields::key_after;
+use text::fields::line_start;
+ghost use Prim.Native.Nat.{_≤_, _<_};
+
+// What is to be done: whether a turn takes its read or withdraws it, how many other reads are open, the read's size in bytes, and how many turns.
+pub(crate) struct Work {
+    pub good: bool,
+    pub takes: bool,
+    pub others: u32,
+    pub size: u32,
+    pub turns: u32,
+}
+
+fn number(line: &[u8], before: Field, key: &[u8], most: u64) -> Field
+    ensures { λ r. ⌜ r .value ≤ most ⌝ }
+{
+    decimal_after(line, before, key, most)
+}
+
+// The field after one of two words, and whether it was the first.
+struct Choice {
+    first: bool,
+    field: Field,
+}
+
+fn one_of_two(line: &[u8], before: Field, one: &[u8], two: &[u8]) -> Choice {
+    let a = key_after(line, before, one);
+    if a.good {
+        return Choice {
+            first: true,
+            field: a,
+        };
+    }
+    Choice {
+        first: false,
+        field: key_after(line, before, two),
+    }
+}
+
+// A size is a number of doublewords, so that a read has it; the line ends with its last number.
+fn is_whole(line: &[u8], last: Field, size: u64) -> bool {
+    if !last.good {
+        return false;
+    }
+    if last.next != line.len() {
+        return false;
+    }
+    if size == 0 {
+        return false;
+    }
+    size % 4 == 0
+}
+
+pub(crate) fn work_in(line: &[u8]) -> Work
+    ensures { λ w. ⌜ (w .others ≤ 31) × (w .size ≤ 4096) ⌝ }
+{
+    let takes = one_of_two(line, line_start(), b"take ", b"withdraw ");
+    let others = number(line, takes.field, b"others=", 31);
+    let size = number(line, others, b" size=", 4096);
+    let turns = number(line, size, b" turns=", 4294967295);
+    Work {
+        good: is_whole(line, turns, size.value),
+        takes: takes.first,
+        others: others.value as u32,
+        size: size.value as u32,
+        turns: turns.value as u32,
+    }
+}

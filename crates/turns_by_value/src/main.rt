@@ -1,0 +1,4 @@
+// Turns of calls on a table, by value.
+fn main() {
+    reads_turns::run(false);
+}
