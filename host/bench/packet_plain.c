@@ -68,12 +68,6 @@ enum {
  * Fields
  * ------------------------------------------------------------------------------------------- */
 
-/* Bits high:low of a byte, as document 01 writes them. */
-static inline uint32_t bits(uint8_t byte, unsigned high, unsigned low)
-{
-    return ((uint32_t)byte >> low) & ((2u << (high - low)) - 1u);
-}
-
 static inline uint32_t load16(const uint8_t *from)
 {
     return (uint32_t)from[0] << 8 | (uint32_t)from[1];
@@ -88,14 +82,6 @@ static inline uint32_t load32(const uint8_t *from)
 static inline uint64_t load64(const uint8_t *from)
 {
     return (uint64_t)load32(from) << 32 | load32(from + 4);
-}
-
-static inline void store32(uint8_t *to, uint32_t number)
-{
-    to[0] = (uint8_t)(number >> 24);
-    to[1] = (uint8_t)(number >> 16);
-    to[2] = (uint8_t)(number >> 8);
-    to[3] = (uint8_t)number;
 }
 
 static inline void store64(uint8_t *to, uint64_t number)

@@ -1,5 +1,5 @@
-/* Rules that the plain C packets and the plain C table share: settings, byte enables, and the boundary
- * that no memory request crosses.
+/* What the plain C packets and the plain C tables share: fields of a header, and the rules of settings,
+ * byte enables and the boundary that no memory request crosses.
  */
 #ifndef PLAIN_RULES_H
 #define PLAIN_RULES_H
@@ -8,6 +8,20 @@
 #include <stdint.h>
 
 #define PLAIN_PAGE 4096u /* no memory request crosses a multiple of it */
+
+/* Bits high:low of a byte, as document 01 writes them. */
+static inline uint32_t bits(uint8_t byte, unsigned high, unsigned low)
+{
+    return ((uint32_t)byte >> low) & ((2u << (high - low)) - 1u);
+}
+
+static inline void store32(uint8_t *to, uint32_t number)
+{
+    to[0] = (uint8_t)(number >> 24);
+    to[1] = (uint8_t)(number >> 16);
+    to[2] = (uint8_t)(number >> 8);
+    to[3] = (uint8_t)number;
+}
 
 static inline bool size_allowed(uint32_t size)
 {

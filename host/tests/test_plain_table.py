@@ -1,8 +1,8 @@
-"""Holds the plain C table (host/bench/reads_plain.c) to the second one on the stored script of calls.
+"""Holds the plain C tables (host/bench/reads_plain.c) to the second one on the stored script of calls.
 
-It is what the proved table is measured against, so it must do the same work.  It is built as a shared
-library and put in the second table's place in the console that runs the script; every line must print
-what crates/calls/stdout has.  Prints one summary line, or one line with the first failure and exits
+They are what the proved table is measured against, so they must do the same work.  Each form is built as
+a shared library and put in the second table's place in the console that runs the script; every line must
+print what crates/calls/stdout has.  Prints one summary line, or one line with the first failure and exits
 with 1.
 """
 
@@ -25,6 +25,7 @@ from checks import require
 BENCH = ROOT / "host" / "bench"
 SOURCES = (BENCH / "reads_plain.c", BENCH / "packet_plain.c")
 FLAGS = ("-std=c11", "-O2", "-Wall", "-Wextra", "-Wpedantic", "-Wconversion", "-Wshadow", "-Werror")
+FORMS = {"256 slots": "-DPLAIN_SLOTS=256", "32 slots": "-DPLAIN_SLOTS=32", "a set": "-DPLAIN_SET"}
 OUTCOMES = ("code", "more", "done", "failed", "poisoned")    # plain_outcome, in its order
 
 
@@ -33,17 +34,6 @@ class Request(ctypes.Structure):
     _fields_ = [("address", ctypes.c_uint64), ("start", ctypes.c_uint64), ("length", ctypes.c_uint32),
                 ("first", ctypes.c_uint8), ("last", ctypes.c_uint8),
                 ("traffic_class", ctypes.c_uint8), ("attributes", ctypes.c_uint8)]
-
-
-class Slot(ctypes.Structure):
-    """struct plain_slot."""
-    _fields_ = [("request", Request), ("taken", ctypes.c_uint32), ("open", ctypes.c_bool)]
-
-
-class TableFields(ctypes.Structure):
-    """struct plain_table."""
-    _fields_ = [("mps", ctypes.c_uint32), ("mrrs", ctypes.c_uint32), ("rcb", ctypes.c_uint32),
-                ("requester", ctypes.c_uint16), ("slots", Slot * reads.TAG_LIMIT)]
 
 
 class PlainAnswer(ctypes.Structure):
@@ -60,19 +50,18 @@ def request_of(read):
 class Records:
     """The table's records, read and put as the second table's are."""
 
-    def __init__(self, fields):
-        self.fields = fields
+    def __init__(self, table):
+        self.table = table
 
     def __getitem__(self, tag):
-        slot = self.fields.slots[tag]
-        if not slot.open:
+        request, taken = Request(), ctypes.c_uint32(0)
+        if not self.table.call("record", tag, ctypes.byref(request), ctypes.byref(taken)):
             return None
-        request = slot.request
         return reads.Read(request.address, request.length, request.first, request.last,
-                          request.traffic_class, request.attributes, request.start, slot.taken)
+                          request.traffic_class, request.attributes, request.start, taken.value)
 
     def __setitem__(self, tag, read):
-        self.fields.slots[tag] = Slot(request_of(read), read.taken, True)
+        self.table.call("force", tag, ctypes.byref(request_of(read)), read.taken)
 
 
 def lent(data):
@@ -85,43 +74,35 @@ class PlainTable:
 
     library = None
 
-    def __init__(self, mps, mrrs, rcb, requester):
-        self.fields = TableFields()
-        self.slots = Records(self.fields)
-        self.made = self.library.plain_make(ctypes.byref(self.fields), mps, mrrs, rcb, requester)
+    def __init__(self, *made_from):
+        self.fields = ctypes.create_string_buffer(self.library.plain_size())
+        self.slots = Records(self)
+        self.made = self.call("make", *made_from)
+
+    def call(self, name, *arguments):
+        """A function of reads_plain.h on the table."""
+        return getattr(self.library, "plain_" + name)(self.fields, *arguments)
 
     def open(self, read, tag, store, output):
         """plain_open."""
-        request = request_of(read)
-        return self.library.plain_open(ctypes.byref(self.fields), ctypes.byref(request), tag,
-                                       ctypes.c_size_t(len(store)), lent(output),
-                                       ctypes.c_size_t(len(output)))
+        return self.call("open", ctypes.byref(request_of(read)), tag, ctypes.c_size_t(len(store)),
+                         lent(output), ctypes.c_size_t(len(output)))
 
     def take(self, data, store):
         """plain_take."""
-        answer = self.library.plain_take(ctypes.byref(self.fields), data, ctypes.c_size_t(len(data)),
-                                         lent(store), ctypes.c_size_t(len(store)))
+        answer = self.call("take", data, ctypes.c_size_t(len(data)), lent(store),
+                           ctypes.c_size_t(len(store)))
         return reads.Answer(OUTCOMES[answer.outcome], answer.value)
 
     def withdraw(self, tag):
         """plain_withdraw."""
-        return self.library.plain_withdraw(ctypes.byref(self.fields), tag)
+        return self.call("withdraw", tag)
 
     def owed(self):
         """plain_owed."""
         owed = ctypes.c_uint64(0)
-        number = self.library.plain_owed(ctypes.byref(self.fields), ctypes.byref(owed))
+        number = self.call("owed", ctypes.byref(owed))
         return number, owed.value
-
-
-def settings_field(name):
-    """A setting, put into the table unchecked."""
-    return property(lambda table: getattr(table.fields, name),
-                    lambda table, value: setattr(table.fields, name, value))
-
-
-for setting in ("mps", "mrrs", "rcb"):
-    setattr(PlainTable, setting, settings_field(setting))
 
 
 class PlainConsole(reads.Console):
@@ -138,29 +119,38 @@ class PlainConsole(reads.Console):
         require(printed == "new code=%d" % self.table.made, "making a table: another number")
         return printed
 
+    def set_settings(self, *settings):
+        """Settings, unchecked."""
+        self.table.call("put_settings", *settings)
+        return "settings"
 
-COMMANDS = {**reads.COMMANDS, "new": (PlainConsole.new, reads.COMMANDS["new"][1])}
+
+COMMANDS = {**reads.COMMANDS, "new": (PlainConsole.new, reads.COMMANDS["new"][1]),
+            "settings": (PlainConsole.set_settings, reads.COMMANDS["settings"][1])}
 
 
-def build(folder):
-    """The C table as a shared library."""
-    path = str(Path(folder) / "reads_plain.so")
-    made = subprocess.run(["cc", *FLAGS, "-shared", "-fPIC", "-o", path, *map(str, SOURCES)],
+def build(folder, form):
+    """A form of the C table as a shared library."""
+    path = str(Path(folder) / (form + ".so"))
+    made = subprocess.run(["cc", *FLAGS, FORMS[form], "-shared", "-fPIC", "-o", path, *map(str, SOURCES)],
                           capture_output=True)
-    require(made.returncode == 0 and not made.stderr, "it does not build: %s", made.stderr.decode())
+    require(made.returncode == 0 and not made.stderr, "%s: it does not build: %s", form,
+            made.stderr.decode())
     library = ctypes.CDLL(path)
     library.plain_take.restype = PlainAnswer
+    library.plain_size.restype = ctypes.c_size_t
+    library.plain_record.restype = ctypes.c_bool
     for name in ("plain_make", "plain_open", "plain_withdraw", "plain_owed"):
         getattr(library, name).restype = ctypes.c_uint32
     return library
 
 
-def check_script(lines, expected):
+def check_script(form, lines, expected):
     """Every line prints what the stored output has."""
     console = PlainConsole()
     for number, (line, answer) in enumerate(zip(lines, expected, strict=True), 1):
         seen = console.run(line)
-        require(seen == answer, "line %d, %s: %s, not %s", number, line, seen, answer)
+        require(seen == answer, "%s, line %d, %s: %s, not %s", form, number, line, seen, answer)
 
 
 def all_checks():
@@ -171,9 +161,10 @@ def all_checks():
     expected = (folder / "stdout").read_text(encoding="ascii").splitlines()
     reads.COMMANDS = COMMANDS
     with tempfile.TemporaryDirectory() as built:
-        PlainTable.library = build(built)
-        check_script(lines, expected)
-    return "%d lines of the script" % len(lines)
+        for form in FORMS:
+            PlainTable.library = build(built, form)
+            check_script(form, lines, expected)
+    return "%d lines of the script with %s" % (len(lines), ", ".join(FORMS))
 
 
 if __name__ == "__main__":

@@ -1,5 +1,6 @@
 -- What the machine counts of a number's bits is what the definitions count of a field of w bits.
 use mathlib.Core.Path.{_≡_, refl, sym, ap, _∙_}
+use mathlib.Core.Bool.{Bool, true, false}
 use mathlib.Core.Logic.{_⊎_, inl, inr, ⊎-elim}
 use Prim.Native.Nat.{ℕ, zero, suc, _+_, _-_, _*_, _/_, _%_, _^_, _≤_, _<_, zero-le}
 use native.Mathlib.Nat.{eq-zero-or-pos, lt-of-lt-of-le, mod-eq-of-lt, mod-lt, mod-one, div-one, pow-suc, zero-add, zero-mul, le-suc, lt-div-mul-add, div-mul-le-self, lt-of-not-le, not-le-of-lt, lt-of-le-of-lt}
@@ -8,10 +9,11 @@ use native.Mathlib.Decide.{le-ind}
 use native.Mathlib.Omega.{arith}
 use lib.Arith.{lt-one}
 use lib.Dec.{eqb}
-use lib.Pow.{pow-mono, pow-pos, shr-lt, mod-pow-add}
+use lib.Pow.{pow-mono, pow-pos, shr-lt, shr-shr, mod-pow-add}
 use lib.Count.{leadingZeros, trailingZeros, under, leading-length, leading-top, leading-unique, ones, ones-cat}
 use Rattle.bits.specs.Choice.{pick}
 use Rattle.bits.specs.Count.{clearBelow, clearAbove, setBits}
+use Rattle.bits.specs.Field.{bit}
 
 two-cases : (n : ℕ) → (n % 2 ≡ 0) ⊎ (n % 2 ≡ 1)
 two-cases n = ⊎-elim (λ e. inl e) (λ q. inr (omega arith)) (eq-zero-or-pos (n % 2))
@@ -25,6 +27,21 @@ pub trailing-below : (w x : ℕ) → trailingZeros w x ≡ clearBelow w x
 unfolding trailingZeros clearBelow
 trailing-below zero x = refl
 trailing-below (suc w) x = rw (div-one x, trailing-below w (x / 2)) (under-pick (x % 2) _ (omega arith))
+
+-- a bit but the lowest, in what is above the lowest
+bit-up : (x i : ℕ) → bit x (suc i) ≡ bit (x / 2) i
+bit-up x i = rw (← one-add i, ← shr-shr x 1 i)
+
+-- where some of the w bits is set, the bit above the clear ones is
+pub below-set : (w x : ℕ) → clearBelow w x < w → bit x (clearBelow w x) ≡ true
+unfolding clearBelow
+below-set zero x h = absurd (omega arith)
+below-set (suc w) x h = go (bit x 0) refl h (below-set w (x / 2))
+  where
+    go : (b : Bool) → bit x 0 ≡ b → pick b 0 (suc (clearBelow w (x / 2))) < suc w → (clearBelow w (x / 2) < w → bit (x / 2) (clearBelow w (x / 2)) ≡ true)
+        → bit x (pick b 0 (suc (clearBelow w (x / 2)))) ≡ true
+    go true e l i = e
+    go false e l i = bit-up x (clearBelow w (x / 2)) ∙ i (omega arith)
 
 -- a number of j bits, not 0, has as many zeros below at any greater width
 half-lt : (k n : ℕ) → n < 2 ^ suc k → n / 2 < 2 ^ k
@@ -96,3 +113,6 @@ below-above w x p h =
     let t = leading-top w x p h in
     let l : trailingZeros w x < suc (t .0) = lt-of-not-le (λ g. not-le-of-lt (lt-of-le-of-lt (trailing-power w x p h) (t .3)) (pow-mono g)) in
     rw (← trailing-below w x, ← leading-above w x h) (omega (arith, t .1))
+
+pub below-lt : (w x : ℕ) → 0 < x → x < 2 ^ w → clearBelow w x < w
+below-lt w x p h = omega (arith, below-above w x p h)

@@ -1,4 +1,4 @@
-// Counts over a nibble, the low four bits of a byte.
+// Counts over a nibble, the low four bits of a byte, and the lowest bit of a word.
 ghost use mathlib.Core.Path.{_≡_};
 ghost use Prim.Native.Nat.{_%_};
 ghost use Rattle.bits.specs.Count.{clearBelow, clearAbove, setBits};
@@ -25,4 +25,11 @@ pub fn set_bits(x: u8) -> u32
 {
     let n = x % 16;
     u32::count_ones(n as u32)
+}
+
+// The lowest bit that is set; 64 where none is.
+pub fn lowest_bit(x: u64) -> usize
+    ensures { λ r. ⌜ r ≡ clearBelow 64 x ⌝ }
+{
+    u64::trailing_zeros(x) as usize
 }

@@ -22,8 +22,9 @@ use crate::print::print_words;
 use crate::sum::sum_of;
 use bits::choice::lesser;
 use read_rules::continuation::Origin;
-use read_slots::Slot;
 use read_slots::State;
+use read_slots::record::put_state;
+use read_slots::record::record_at;
 use reads::table::Table;
 use text::hex::Spelled;
 use text::hex::hex_bytes;
@@ -131,8 +132,8 @@ fn run_record(tag: u32, t: Table) {
         print_bad();
         return;
     }
-    let x = t.slots[tag as usize];
-    let state = x.state;
+    let opened = t.opened;
+    let state = record_at(&opened, &t.words, tag as usize);
     print_record(tag, state);
 }
 
@@ -143,23 +144,25 @@ fn run_force(f: ForceForm, mut t: Table) -> Table {
     }
     let r = f.read;
     let tag = f.tag as usize;
-    t.slots[tag] = Slot {
-        state: State::Open(r),
-    };
+    let mut opened = t.opened;
+    put_state(&mut opened, &mut t.words, tag, State::Open(r));
+    t.opened = opened;
     print_words(b"force");
     t
 }
 
 fn run_settings(s: Settings, t: Table) -> Table {
     let o = t.origin;
-    let slots = t.slots;
+    let opened = t.opened;
+    let words = t.words;
     print_words(b"settings");
     Table {
         origin: Origin {
             settings: s,
             requester: o.requester,
         },
-        slots: slots,
+        opened: opened,
+        words: words,
     }
 }
 

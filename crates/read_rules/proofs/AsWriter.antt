@@ -44,7 +44,7 @@ module _ (requester tag : ℕ) (q : ReadRequest) where
   same-given r t = rw (lt-leb (2 ^ 16) requester r, lt-leb (2 ^ 8) tag t)
 
   -- either form is a memory request without data, so 3, 5 and the second 6 do not come
-  read-type : (familyOf (typeOf packet) ≡ Memory) × ((n : ℕ) → dataBytes (typeOf packet) n ≡ 0)
+  pub read-type : (familyOf (typeOf packet) ≡ Memory) × ((n : ℕ) → dataBytes (typeOf packet) n ≡ 0)
   unfolding requestPacket typeOf dataBytes
   read-type = go (ltb (q .access .address) (2 ^ 32))
     where

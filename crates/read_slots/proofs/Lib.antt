@@ -1,1 +1,3 @@
+pub mod RecordLaws
 mod Returns
+mod ScanLaws

@@ -1,22 +1,37 @@
--- One law for each return of the code.
-use Prim.Native.Nat.{ℕ}
-use mathlib.Core.Path.{_≡_}
-use mathlib.Core.Bool.{Bool}
-use Rattle.tlp.specs.declared.settings.Settings.{Settings}
-use Rattle.read_rules.specs.declared.request.ReadRequest.{ReadRequest}
-use Rattle.read_slots.specs.Slots.{validState, validSlot, sharesIn, sharesWith, owedIn, owedInSlot}
+-- One law for each return of the functions of one record.
+use Prim.Native.Nat.{ℕ, _≤_, _<_}
+use mathlib.Core.Path.{_≡_, sym, _∙_}
+use mathlib.Core.Bool.{Bool, true, false, not}
+use mathlib.Core.List.{List}
+use borrow.Author.Tests.{not-true, not-false}
+use Rattle.read_rules.specs.declared.validity.Read.{Read}
+use Rattle.read_words.specs.TagSets.{contains}
+use Rattle.read_words.specs.Words.{readAt}
 use Rattle.read_slots.specs.declared.State.{State}
-use Rattle.read_slots.specs.declared.Slot.{Slot}
+use Rattle.read_slots.specs.declared.State.the-variants.{Free, Open}
+use Rattle.read_slots.specs.Records.{recordAt, stateBelow, openedWith, wordsWith}
+use Rattle.read_slots.proofs.RecordLaws.{below-in, below-over}
 
-module _ (x : Slot) (v : State) (e : x .state ≡ v) where
-  pub valid-case : (s : Settings) (r : Bool) → r ≡ validState s v → r ≡ validSlot s x
-  unfolding validSlot
-  valid-case s r q = rw e q
+module _ (opened words : List ℕ) (tag : ℕ) (b : Bool) (e : b ≡ contains opened tag) where
+  pub record-free : not b ≡ true → Free ≡ recordAt opened words tag
+  unfolding recordAt
+  record-free h = rw (← e, not-true b h)
 
-  pub shares-case : (q : ReadRequest) (r : Bool) → r ≡ sharesIn q v → r ≡ sharesWith q x
-  unfolding sharesWith
-  shares-case q r k = rw e k
+  pub record-open : (r : Read) → not b ≡ false → r ≡ readAt words tag → Open r ≡ recordAt opened words tag
+  unfolding recordAt
+  record-open r h f = rw (← e, not-false b h, f)
 
-  pub owed-case : (n : ℕ) → n ≡ owedIn v → n ≡ owedInSlot x
-  unfolding owedInSlot
-  owed-case n k = rw e k
+module _ (limit : ℕ) (opened words : List ℕ) (tag : ℕ) where
+  pub state-free : limit ≤ tag → Free ≡ stateBelow limit opened words tag
+  state-free h = sym (below-over limit opened words tag h)
+
+  pub state-record : (x : State) → tag < limit → x ≡ recordAt opened words tag → x ≡ stateBelow limit opened words tag
+  state-record x h e = e ∙ sym (below-in limit opened words tag h)
+
+pub opened-case : (x v : State) (opened opened′ : List ℕ) (tag : ℕ) → x ≡ v → opened′ ≡ openedWith opened tag v → opened′ ≡ openedWith opened tag x
+opened-case x v opened opened′ tag e f = rw e f
+
+pub words-case : (x v : State) (words words′ : List ℕ) (tag : ℕ) → x ≡ v → words′ ≡ wordsWith words tag v → words′ ≡ wordsWith words tag x
+words-case x v words words′ tag e f = rw e f
+
+pub ruleset record-laws = (record-free, record-open, state-free, state-record, opened-case, words-case)

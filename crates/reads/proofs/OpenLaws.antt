@@ -1,38 +1,36 @@
 -- Laws of open, in the words of the returns.
-use Prim.Native.Nat.{ℕ, zero, suc, _^_, _≤_, _<_}
-use mathlib.Core.Path.{_≡_, refl, sym, ap, _∙_}
-use mathlib.Core.Bool.{Bool, true, false, not, and-eq-true-iff}
+use Prim.Native.Nat.{ℕ, zero, suc, _^_, _≤_, _<_, zero-le}
+use mathlib.Core.Path.{_≡_, refl, sym, _∙_}
+use mathlib.Core.Bool.{Bool, true, false, not, true≢false}
 use mathlib.Core.List.{List, [], _∷_, _++_}
 use native.Mathlib.Omega.{arith}
 use lib.Dec.{eqb, leb, ltb}
 use lib.ListN.{length}
-use borrow.Author.Tests.{le-leb, lt-leb, eq-eqb, ne-eqb, leb-false, not-false}
+use borrow.Author.Tests.{le-ltb, le-leb, lt-leb, eq-eqb, ne-eqb, leb-false, not-true, not-false}
 use Rattle.bits.specs.Choice.{pick}
-use Rattle.scan.specs.Scans.{anyOf}
-use Rattle.tlp.specs.Rows.{Row, row, first, NoneHold}
-use Rattle.tlp.specs.Settings.{settingsListed}
-use Rattle.tlp.proofs.RowLaws.{some-of, none-of, first-none, none-first}
+use Rattle.tlp.specs.Rows.{Row, row, first}
+use Rattle.tlp.specs.Packets.{accessOf}
+use Rattle.tlp.proofs.RowLaws.{some-of, none-of, first-none}
 use Rattle.tlp_write.specs.Layout.{bytesOf, sizeOf}
-use Rattle.tlp_write.specs.Write.{writeRows, writeAnswer, writePacket, outAfter, writeOut}
+use Rattle.tlp_write.specs.Write.{writeAnswer, layAnswer, outAfter, layOut}
 use Rattle.tlp_write.specs.declared.WriteAnswer.{WriteAnswer}
 use Rattle.tlp_write.specs.declared.WriteAnswer.the-variants.{Written, Refused as Unwritten}
-use Rattle.tlp.specs.declared.settings.Settings.{Settings}
 use Rattle.tlp.specs.declared.packet.Packet.{Packet}
 use Rattle.tlp.specs.declared.refusal.Refusal.{Refusal}
 use Rattle.read_rules.specs.declared.request.ReadRequest.{ReadRequest}
-use Rattle.read_rules.specs.Requests.{requestPacket, requestRows}
-use Rattle.read_rules.specs.Windows.{placeRows}
-use Rattle.read_rules.proofs.AsWriter.{as-writer}
+use Rattle.read_rules.proofs.AsWriter.{read-type}
+use Rattle.read_rules.specs.declared.continuation.Origin.{Origin}
 use Rattle.read_slots.specs.declared.State.{State}
-use Rattle.read_slots.specs.Slots.{isOpen, sharesWith}
+use Rattle.read_slots.specs.declared.State.the-variants.{Open}
+use Rattle.read_slots.specs.Records.{openedWith, wordsWith}
+use Rattle.read_slots.specs.Slots.{isOpen}
 use Rattle.reads.specs.declared.table.Table.{Table}
-use Rattle.reads.specs.declared.table.View.{View}
 use Rattle.reads.specs.declared.answer.OpenAnswer.{OpenAnswer}
 use Rattle.reads.specs.declared.answer.OpenAnswer.the-variants.{Opened, Refused}
-use Rattle.reads.specs.Tables.{tagLimit, stateAt, validTable}
-use Rattle.reads.proofs.TableLaws.{limit-fits, put-same, put-there}
+use Rattle.reads.specs.Tables.{tagLimit, tableOf, stateAt, withState, validTable, sharesOpen}
+use Rattle.reads.proofs.TableLaws.{limit-fits, shares-seen}
 use Rattle.reads.specs.OpenCall.{headerPacket, earlyRows, openRows, openAnswer, tableOpened, openCall, outGiven, openOut}
-use Rattle.reads.specs.Steps.{viewOf, putState, earlySeen, headerAnswer, recordOpened}
+use Rattle.reads.specs.Steps.{earlySeen, headerAnswer, opens}
 
 -- ---- the rows before 12
 
@@ -45,23 +43,23 @@ module _ (rs : List Row) where
   unfolding first
   limit-next tag n m r e h q = rw (← e, lt-leb n tag h) q
 
-  pub open-here : (r : Bool) (x y : State) → r ≡ isOpen x → x ≡ y → r ≡ true → 21 ≡ first (row 21 (isOpen y) ∷ rs)
+  pub open-here : (r : Bool) (x : State) → r ≡ isOpen x → r ≡ true → 21 ≡ first (row 21 (isOpen x) ∷ rs)
   unfolding first
-  open-here r x y e f h = rw (← f, ← e, h)
+  open-here r x e h = rw (← e, h)
 
-  pub open-next : (r : Bool) (x y : State) (m : ℕ) → r ≡ isOpen x → x ≡ y → r ≡ false → m ≡ first rs → m ≡ first (row 21 (isOpen y) ∷ rs)
+  pub open-next : (r : Bool) (x : State) (m : ℕ) → r ≡ isOpen x → r ≡ false → m ≡ first rs → m ≡ first (row 21 (isOpen x) ∷ rs)
   unfolding first
-  open-next r x y m e f h q = rw (← f, ← e, h) q
+  open-next r x m e h q = rw (← e, h) q
 
 pub ruleset early-laws = (limit-here, limit-next, open-here, open-next)
 
 -- ---- the header, by the writer
 
-module _ (s : Settings) (p h : Packet) (w : p ≡ h) where
-  pub header-answer : (a : WriteAnswer) (space : ℕ) → a ≡ writePacket s p 0 space → a ≡ writePacket s h 0 space
+module _ (mps : ℕ) (p h : Packet) (w : p ≡ h) where
+  pub header-answer : (a : WriteAnswer) (space : ℕ) → a ≡ layAnswer mps p 0 space → a ≡ layAnswer mps h 0 space
   header-answer a space e = rw w at e
 
-  pub header-out : (out out′ : List ℕ) → out′ ≡ writeOut s p [] out → out′ ≡ writeOut s h [] out
+  pub header-out : (out out′ : List ℕ) → out′ ≡ layOut mps p [] out → out′ ≡ layOut mps h [] out
   header-out out out′ e = rw w at e
 
 pub ruleset header-laws = (header-answer, header-out)
@@ -89,130 +87,114 @@ pub ruleset header-answers = (answer-number, answer-unwritten, answer-written)
 
 pub ruleset header-outs = (out-kept, out-written)
 
-pub opened-case : (a v : OpenAnswer) (q : ReadRequest) (x y : State) → a ≡ v → y ≡ recordOpened v q x → y ≡ recordOpened a q x
-opened-case a v q x y e f = rw e f
+-- ---- the rows before 12, whole
 
--- ---- the whole call
-
-module _ (n : ℕ) (b : Bool) where
-  pub window-earlier : (n ≡ 0 → ⊥) → n ≡ pick (eqb n 0) (first (row 24 b ∷ [])) n
+module _ (n : ℕ) (shared : Bool) where
+  pub window-earlier : (n ≡ 0 → ⊥) → n ≡ pick (eqb n 0) (first (row 24 shared ∷ [])) n
   window-earlier h = rw (ne-eqb n 0 h)
 
-  module _ (h : n ≡ 0) (r : Bool) (e : r ≡ b) where
-    pub window-shared : r ≡ true → 24 ≡ pick (eqb n 0) (first (row 24 b ∷ [])) n
+  module _ (h : n ≡ 0) (r : Bool) (e : r ≡ shared) where
+    pub window-shared : r ≡ true → 24 ≡ pick (eqb n 0) (first (row 24 shared ∷ [])) n
     unfolding first
-    window-shared k = rw (eq-eqb n 0 h, ← e, k)
+    window-shared m = rw (eq-eqb n 0 h, ← e, m)
 
-    pub window-clear : r ≡ false → 0 ≡ pick (eqb n 0) (first (row 24 b ∷ [])) n
+    pub window-clear : r ≡ false → 0 ≡ pick (eqb n 0) (first (row 24 shared ∷ [])) n
     unfolding first
-    window-clear k = rw (eq-eqb n 0 h, ← e, k)
+    window-clear m = rw (eq-eqb n 0 h, ← e, m)
 
-pub ruleset window-laws = (window-earlier, window-shared, window-clear)
+pub ruleset window-laws = (window-earlier, window-shared, window-clear, shares-seen)
 
--- a tag below the limit fits the header's field
-pub tag-small : (v : View) (b : Bool) (q : ReadRequest) (tag room n m : ℕ) → n ≡ first (earlySeen v q tag room) → m ≡ pick (eqb n 0) (first (row 24 b ∷ [])) n → m ≡ 0 → tag < 2 ^ 8
-tag-small v b q tag room n m e f h =
-    let k = limit-fits (v .origin .settings) in
-    let none = first-none (earlySeen v q tag room) refl (sym e ∙ was n (sym f ∙ h)) in
-    let l = leb-false (tagLimit (v .origin .settings)) tag (none .1 .1 .1 .1 .0) in
-    omega arith
+pub number-is : (o : Origin) (opened words : List ℕ) (q : ReadRequest) (tag room n m : ℕ) (v : Bool) (x : State) → v ≡ validTable (tableOf o opened words) → x ≡ stateAt (tableOf o opened words) tag
+    → m ≡ first (earlySeen v o x q tag room) → n ≡ pick (eqb m 0) (first (row 24 (sharesOpen (tableOf o opened words) q) ∷ [])) m
+    → n ≡ first (earlyRows (tableOf o opened words) q tag room)
+number-is o opened words q tag room n m v x e f g h = h ∙ go m (rw (e, f) at g)
   where
-    was : (n : ℕ) → pick (eqb n 0) (first (row 24 b ∷ [])) n ≡ 0 → n ≡ 0
-    was zero z = refl
-    was (suc n) z = rw (ne-eqb (suc n) 0 (λ y. absurd (omega arith))) at z
+    before : List Row
+    before = earlySeen (validTable (tableOf o opened words)) o (stateAt (tableOf o opened words) tag) q tag room
+
+    shared : List Row
+    shared = row 24 (sharesOpen (tableOf o opened words) q) ∷ []
+
+    go : (k : ℕ) → k ≡ first before → pick (eqb k 0) (first shared) k ≡ first (before ++ shared)
+    go zero z = none-of before shared 0 (first shared) refl z refl refl
+    go (suc k) z = rw (ne-eqb (suc k) 0 (λ y. absurd (omega arith))) (some-of before shared (suc k) z (λ y. absurd (omega arith)))
+
+-- without a number the tag is below the limit, so it fits the header's field
+pub tag-fits : (t : Table) (q : ReadRequest) (tag room n : ℕ) → n ≡ first (earlyRows t q tag room) → n ≡ 0 → tag < 2 ^ 8
+tag-fits t q tag room n e h =
+    let none = first-none (earlyRows t q tag room) refl (sym e ∙ h) in
+    let k = limit-fits (t .origin .settings) in
+    let l = leb-false (tagLimit (t .origin .settings)) tag (none .1 .1 .1 .1 .0) in
+    omega arith
 
 pub when-none : (n m k : ℕ) → (n ≡ 0 → m < k) → n ≡ 0 → m < k
 when-none n m k f h = f h
 
+-- ---- the whole call
+
 module _ (t : Table) (q : ReadRequest) (tag room n : ℕ) (e : n ≡ first (earlyRows t q tag room)) (space : ℕ) where
+  abbrev header : Packet
+  header = headerPacket (t .origin) q tag
+
   abbrev last : List Row
-  last = row 12 (ltb space (sizeOf (headerPacket (t .origin) q tag))) ∷ []
+  last = row 12 (ltb space (sizeOf header)) ∷ []
 
-  rows-refused : (k : ℕ) → n ≡ suc k → first (openRows t q tag room space) ≡ suc k
-  rows-refused k h = sym (some-of (earlyRows t q tag room) last n e (λ z. let w : 0 ≡ suc k = sym z ∙ h in omega arith)) ∙ h
-
-  module _ (small : n ≡ 0 → tag < 2 ^ 8) (h : n ≡ 0) (requester : t .origin .requester < 2 ^ 16) where
-    early : NoneHold (earlyRows t q tag room)
-    early = first-none (earlyRows t q tag room) refl (sym e ∙ h)
-
-    listed : settingsListed (t .origin .settings) ≡ true
-    unfolding validTable
-    listed = and-eq-true-iff (settingsListed (t .origin .settings)) _ .0 (not-false (validTable t) (early .0)) .0
-
-    -- what is left to the writer: the header's 12
-    open-last : first (openRows t q tag room space) ≡ first last
-    open-last = sym (none-of (earlyRows t q tag room) last n (first last) refl e h refl)
-
-    write-last : first (writeRows (t .origin .settings) (headerPacket (t .origin) q tag) 0 space) ≡ first last
-    write-last =
-        as-writer (t .origin .settings) (t .origin .requester) tag q space listed requester (small h)
-        ∙ sym (none-of (requestRows q) last 0 (first last) refl (sym (none-first (requestRows q) (early .1 .0, (early .1 .1 .0, (early .1 .1 .1 .0, tt))))) refl refl)
-
-    from-writer : openAnswer (first (openRows t q tag room space)) (sizeOf (headerPacket (t .origin) q tag))
-        ≡ headerAnswer 0 (writePacket (t .origin .settings) (headerPacket (t .origin) q tag) 0 space)
-    unfolding writePacket
-    from-writer = rw (open-last, write-last) (go (ltb space (sizeOf (headerPacket (t .origin) q tag))))
-      where
-        go : (b : Bool) → openAnswer (first (row 12 b ∷ [])) (sizeOf (headerPacket (t .origin) q tag)) ≡ headerAnswer 0 (writeAnswer (first (row 12 b ∷ [])) (sizeOf (headerPacket (t .origin) q tag)))
-        go true = unfold first in refl
-        go false = unfold first in refl
+  -- a read has no data, so that 12 alone is left to the writer
+  lays : layAnswer (t .origin .settings .mps) header 0 space ≡ writeAnswer (first last) (sizeOf header)
+  unfolding layAnswer first
+  lays = rw (read-type (t .origin .requester) tag q .1 (accessOf header .length), le-ltb (t .origin .settings .mps) 0 zero-le)
 
   -- the answer follows the writer's
-  answers : (n ≡ 0 → tag < 2 ^ 8) → t .origin .requester < 2 ^ 16
-      → openAnswer (first (openRows t q tag room space)) (sizeOf (headerPacket (t .origin) q tag)) ≡ headerAnswer n (writePacket (t .origin .settings) (headerPacket (t .origin) q tag) 0 space)
-  answers small requester = go n refl
+  answers : openAnswer (first (openRows t q tag room space)) (sizeOf header) ≡ headerAnswer n (layAnswer (t .origin .settings .mps) header 0 space)
+  answers = go n refl
     where
-      go : (m : ℕ) → n ≡ m
-          → openAnswer (first (openRows t q tag room space)) (sizeOf (headerPacket (t .origin) q tag)) ≡ headerAnswer m (writePacket (t .origin .settings) (headerPacket (t .origin) q tag) 0 space)
-      go zero z = from-writer small z requester
-      go (suc k) z = rw (rows-refused k z)
+      end : (b : Bool) → openAnswer (first (row 12 b ∷ [])) (sizeOf header) ≡ headerAnswer 0 (writeAnswer (first (row 12 b ∷ [])) (sizeOf header))
+      end true = unfold first in refl
+      end false = unfold first in refl
 
-  -- a record is put in for a tag below the limit alone
-  put-opened : putState t tag (recordOpened (openAnswer (first (openRows t q tag room space)) (sizeOf (headerPacket (t .origin) q tag))) q (stateAt t tag))
-      ≡ tableOpened (openAnswer (first (openRows t q tag room space)) (sizeOf (headerPacket (t .origin) q tag))) t q tag
-  put-opened = go (first (openRows t q tag room space)) refl
+      go : (m : ℕ) → n ≡ m → openAnswer (first (openRows t q tag room space)) (sizeOf header) ≡ headerAnswer m (layAnswer (t .origin .settings .mps) header 0 space)
+      go zero z = rw (← none-of (earlyRows t q tag room) last n (first last) refl e z refl, lays) (end (ltb space (sizeOf header)))
+      go (suc k) z = rw (sym (some-of (earlyRows t q tag room) last n e (λ y. let w : 0 ≡ suc k = sym y ∙ z in omega arith)) ∙ z)
+
+-- what is stored, and that nothing is
+
+module _ (t : Table) (q : ReadRequest) (tag : ℕ) where
+  stored-opened : (a : OpenAnswer) → opens a ≡ true → withState t tag (Open (record { request = q; taken = 0 })) ≡ tableOpened a t q tag
+  stored-opened (Opened size) h = refl
+  stored-opened (Refused n) h = absurd (true≢false (sym h))
+
+  kept-refused : (a : OpenAnswer) → opens a ≡ false → t ≡ tableOpened a t q tag
+  kept-refused (Opened size) h = absurd (true≢false h)
+  kept-refused (Refused n) h = refl
+
+module _ (o : Origin) (opened words : List ℕ) (q : ReadRequest) (tag room n : ℕ) (e : n ≡ first (earlyRows (tableOf o opened words) q tag room)) where
+  module _ (space : ℕ) (a : OpenAnswer) (g : a ≡ headerAnswer n (layAnswer (o .settings .mps) (headerPacket o q tag) 0 space)) (r : Bool) (h : r ≡ opens a) where
+    answer-is : a ≡ openAnswer (first (openRows (tableOf o opened words) q tag room space)) (sizeOf (headerPacket o q tag))
+    answer-is = g ∙ sym (answers (tableOf o opened words) q tag room n e space)
+
+    pub open-done : (opened′ words′ : List ℕ) → not r ≡ false → opened′ ≡ openedWith opened tag (Open (record { request = q; taken = 0 }))
+        → words′ ≡ wordsWith words tag (Open (record { request = q; taken = 0 })) → record { table = tableOf o opened′ words′; answer = a } ≡ openCall (tableOf o opened words) q tag room space
+    unfolding openCall withState
+    open-done opened′ words′ k f l = rw (← answer-is, ← stored-opened (tableOf o opened words) q tag a (sym h ∙ not-false r k), f, l)
+
+    pub open-kept : not r ≡ true → record { table = tableOf o opened words; answer = a } ≡ openCall (tableOf o opened words) q tag room space
+    unfolding openCall
+    open-kept k = rw (← answer-is, ← kept-refused (tableOf o opened words) q tag a (sym h ∙ not-true r k))
+
+  pub open-left : (out out′ : List ℕ) → out′ ≡ pick (eqb n 0) (layOut (o .settings .mps) (headerPacket o q tag) [] out) out → out′ ≡ openOut (tableOf o opened words) q tag room out
+  unfolding openOut openCall layOut
+  open-left out out′ g =
+      rw (answers (tableOf o opened words) q tag room n e (length out)) (g ∙ go n)
     where
-      go : (m : ℕ) → first (openRows t q tag room space) ≡ m
-          → putState t tag (recordOpened (openAnswer m (sizeOf (headerPacket (t .origin) q tag))) q (stateAt t tag)) ≡ tableOpened (openAnswer m (sizeOf (headerPacket (t .origin) q tag))) t q tag
-      go zero z = put-there t tag _ (first-none (openRows t q tag room space) refl z .1 .1 .1 .1 .0)
-      go (suc m) z = put-same t tag
+      laid : WriteAnswer
+      laid = layAnswer (o .settings .mps) (headerPacket o q tag) 0 (length out)
 
-module _ (t : Table) (q : ReadRequest) (tag room m n : ℕ) (v : View) (w : v ≡ viewOf t tag) (g₀ : m ≡ first (earlySeen v q tag room))
-    (e : n ≡ pick (eqb m 0) (first (row 24 (anyOf (sharesWith q) (t .slots)) ∷ [])) m) where
-  abbrev shared : List Row
-  shared = row 24 (anyOf (sharesWith q) (t .slots)) ∷ []
-
-  seen : n ≡ first (earlyRows t q tag room)
-  seen = e ∙ go m (rw w at g₀)
-    where
-      go : (k : ℕ) → k ≡ first (earlySeen (viewOf t tag) q tag room) → pick (eqb k 0) (first shared) k ≡ first (earlyRows t q tag room)
-      go zero z = none-of (earlySeen (viewOf t tag) q tag room) shared 0 (first shared) refl z refl refl
-      go (suc k) z = rw (ne-eqb (suc k) 0 (λ y. absurd (omega arith))) (some-of (earlySeen (viewOf t tag) q tag room) shared (suc k) z (λ y. absurd (omega arith)))
-
-  small : n ≡ 0 → tag < 2 ^ 8
-  small h = tag-small v (anyOf (sharesWith q) (t .slots)) q tag room m n g₀ e h
-
-  requester-of : v .origin .requester < 2 ^ 16 → t .origin .requester < 2 ^ 16
-  requester-of h = rw w at h
-
-  pub open-done : (space : ℕ) (x y : State) (a : OpenAnswer) (t′ : Table) → x ≡ v .state → v .origin .requester < 2 ^ 16
-      → a ≡ headerAnswer n (writePacket (v .origin .settings) (headerPacket (v .origin) q tag) 0 space) → y ≡ recordOpened a q x → t′ ≡ putState t tag y
-      → record { table = t′; answer = a } ≡ openCall t q tag room space
-  unfolding openCall
-  open-done space x y a t′ f r g h k =
-      let b : a ≡ openAnswer (first (openRows t q tag room space)) (sizeOf (headerPacket (t .origin) q tag)) = (rw w at g) ∙ sym (answers t q tag room n seen space small (requester-of r)) in
-      rw (k, h, f, w, b, put-opened t q tag room n seen space)
-
-  pub open-left : (out out′ : List ℕ) → v .origin .requester < 2 ^ 16 → out′ ≡ pick (eqb n 0) (writeOut (v .origin .settings) (headerPacket (v .origin) q tag) [] out) out → out′ ≡ openOut t q tag room out
-  unfolding openOut openCall writeOut
-  open-left out out′ r g =
-      rw (answers t q tag room n seen (length out) small (requester-of r)) ((rw w at g) ∙ go n)
-    where
-      same : (x : WriteAnswer) → outAfter x (bytesOf (headerPacket (t .origin) q tag) []) out ≡ outGiven (headerAnswer 0 x) (bytesOf (headerPacket (t .origin) q tag) []) out
+      same : (x : WriteAnswer) → outAfter x (bytesOf (headerPacket o q tag) []) out ≡ outGiven (headerAnswer 0 x) (bytesOf (headerPacket o q tag) []) out
       same (Written k) = refl
       same (Unwritten k) = refl
 
-      go : (m : ℕ) → pick (eqb m 0) (outAfter (writePacket (t .origin .settings) (headerPacket (t .origin) q tag) 0 (length out)) (bytesOf (headerPacket (t .origin) q tag) []) out) out
-          ≡ outGiven (headerAnswer m (writePacket (t .origin .settings) (headerPacket (t .origin) q tag) 0 (length out))) (bytesOf (headerPacket (t .origin) q tag) []) out
-      go zero = same (writePacket (t .origin .settings) (headerPacket (t .origin) q tag) 0 (length out))
+      go : (m : ℕ) → pick (eqb m 0) (outAfter laid (bytesOf (headerPacket o q tag) []) out) out ≡ outGiven (headerAnswer m laid) (bytesOf (headerPacket o q tag) []) out
+      go zero = same laid
       go (suc m) = rw (ne-eqb (suc m) 0 (λ z. absurd (omega arith)))
+
+pub ruleset open-laws = (open-done, open-kept)

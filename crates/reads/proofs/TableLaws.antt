@@ -1,124 +1,80 @@
 -- Laws of the table, of making one, of withdraw and of owed, in the words of the returns.
-use Prim.Native.Nat.{ℕ, zero, suc, _≤_, _<_}
-use mathlib.Core.Path.{_≡_, refl, sym, ap, _∙_}
-use mathlib.Core.Bool.{Bool, true, false, _&&_, not}
+use Prim.Native.Nat.{ℕ, zero, suc, _*_, _/_, _≤_, _<_}
+use mathlib.Core.Path.{_≡_, refl}
+use mathlib.Core.Bool.{Bool, true, false, not}
+use mathlib.Core.List.{List}
 use native.Mathlib.Omega.{arith}
-use mathlib.Core.List.{List, _∷_}
-use lib.Dec.{leb, ltb}
-use lib.ListN.{length, getD, set, drop}
-use lib.Seq.{set-getD}
-use borrow.Author.Tests.{lt-ltb, le-ltb, leb-true, leb-false, not-true, not-false}
-use Rattle.bits.specs.Choice.{pick}
-use Rattle.scan.specs.Scans.{allOf, sumOf}
-use Rattle.scan.proofs.ScanLaws.{all-no, all-yes}
-use Rattle.tlp.specs.Rows.{row, first}
-use Rattle.tlp.proofs.RowLaws.{first-none}
+use borrow.Author.Tests.{le-leb, lt-leb, not-true, not-false}
+use Rattle.scan.specs.Belows.{allBelow, anyBelow, sumBelow}
+use Rattle.tlp.specs.Rows.{first}
 use Rattle.tlp.specs.Settings.{settingsListed}
 use Rattle.tlp.specs.declared.settings.Settings.{Settings}
 use Rattle.read_rules.specs.declared.continuation.Origin.{Origin}
+use Rattle.read_rules.specs.declared.request.ReadRequest.{ReadRequest}
+use Rattle.read_words.specs.Capacity.{capacity}
 use Rattle.read_slots.specs.declared.State.{State}
 use Rattle.read_slots.specs.declared.State.the-variants.{Free}
-use Rattle.read_slots.specs.declared.Slot.{Slot}
-use Rattle.read_slots.specs.Slots.{capacity, freeSlot, validSlot, owedInSlot}
+use Rattle.read_slots.specs.Slots.{isOpen}
+use Rattle.read_slots.specs.Records.{stateBelow, openedWith, wordsWith, validAt, sharesAt, owedAt}
+use Rattle.read_words.proofs.SetLaws.{without-empty}
+use Rattle.read_words.proofs.WordLaws.{clear-zeros}
+use Rattle.read_slots.proofs.RecordLaws.{opened-order, words-order, opened-last, words-last}
 use Rattle.reads.specs.declared.table.Table.{Table}
-use Rattle.reads.specs.declared.table.View.{View}
-use Rattle.reads.specs.declared.answer.WithdrawAnswer.{WithdrawAnswer}
+use Rattle.reads.specs.declared.table.Withdrawal.{Withdrawal}
 use Rattle.reads.specs.declared.answer.WithdrawAnswer.the-variants.{Withdrawn, Refused}
 use Rattle.reads.specs.declared.answer.OwedAnswer.the-variants.{Owed, Refused as OwedRefused}
 use Rattle.reads.specs.declared.answer.MakeAnswer.the-variants.{Made, Refused as MakeRefused}
-use Rattle.reads.specs.Tables.{tagLimit, newTable, stateAt, withState, validTable}
-use Rattle.reads.specs.OtherCalls.{makeCall, withdrawRules, withdrawRows, withdrawAnswer, withdrawGives, withdrawCall, owedCall}
-use Rattle.reads.specs.Steps.{viewOf, putState, recordWithdrawn}
+use Rattle.reads.specs.Tables.{tagLimit, newTable, tableOf, stateAt, withState, validTable, sharesOpen, owedSum}
+use Rattle.reads.specs.OtherCalls.{makeCall, withdrawRows, withdrawAnswer, withdrawGives, withdrawCall, owedCall}
 
--- today as many tags as there are slots
+-- there is room for more tags than may be opened
 pub limit-fits : (s : Settings) → tagLimit s ≤ capacity
 unfolding tagLimit
 limit-fits s = omega arith
 
-pub index-fits : (s : Settings) (tag n : ℕ) → n ≡ tagLimit s → tag < n → tag < capacity
-index-fits s tag n e h =
-    let k = limit-fits s in
-    omega arith
+-- ---- what a call looks at, from what was lent
 
--- a tag below the limit n, and one over it
-module _ (A : Type 0) (tag n m : ℕ) (e : n ≡ m) (x y : A) where
-  pub within : tag < n → x ≡ pick (ltb tag m) x y
-  within h = rw (← e, lt-ltb tag n h)
-
-  pub over : n ≤ tag → y ≡ pick (ltb tag m) x y
-  over h = rw (← e, le-ltb tag n h)
-
-pub ruleset limit-laws = (within, over)
-
--- ---- what a call looks at
-
-module _ (t : Table) (tag i : ℕ) (y : Slot) (x : State) (e : i ≡ pick (ltb tag (tagLimit (t .origin .settings))) tag 0) (f : y ≡ getD (t .slots) i freeSlot)
-    (g : x ≡ pick (ltb tag (tagLimit (t .origin .settings))) (y .state) Free) where
-  state-is : x ≡ stateAt t tag
-  unfolding stateAt
-  state-is = rw (g, f, e) (go (ltb tag (tagLimit (t .origin .settings))))
-    where
-      go : (b : Bool) → pick b (getD (t .slots) (pick b tag 0) freeSlot .state) Free ≡ pick b (getD (t .slots) tag freeSlot .state) Free
-      go true = refl
-      go false = refl
-
-  module _ (r : Bool) (h : r ≡ settingsListed (t .origin .settings)) where
-    pub view-unlisted : not r ≡ true → record { origin = t .origin; valid = false; state = x } ≡ viewOf t tag
+module _ (o : Origin) (opened words : List ℕ) where
+  module _ (s : Settings) (k : s ≡ o .settings) (r : Bool) (h : r ≡ settingsListed s) where
+    pub valid-unlisted : not r ≡ true → false ≡ validTable (tableOf o opened words)
     unfolding validTable
-    view-unlisted k = rw (← h, not-true r k, state-is)
+    valid-unlisted m = rw (← k, ← h, not-true r m)
 
-    pub view-listed : not r ≡ false → record { origin = t .origin; valid = allOf (validSlot (t .origin .settings)) (t .slots); state = x } ≡ viewOf t tag
-    unfolding validTable
-    view-listed k = rw (← h, not-false r k, state-is)
+    pub valid-listed : (n : ℕ) (b : Bool) → not r ≡ false → n ≡ tagLimit s → b ≡ allBelow n (validAt s n opened words) → b ≡ validTable (tableOf o opened words)
+    unfolding validTable validAt stateAt
+    valid-listed n b m e q = rw (q, ← k, ← h, not-false r m, e)
 
--- the scan has come to slot k
-module _ (t : Table) (tag : ℕ) (o : Origin) (s : Settings) (x : State) (k : ℕ) (inv : record { origin = o; valid = allOf (validSlot s) (t .slots); state = x } ≡ viewOf t tag)
-    (l : length (t .slots) ≡ capacity) (rest : allOf (validSlot s) (drop k (t .slots)) ≡ allOf (validSlot s) (t .slots)) where
-  pub view-invalid : (r : Bool) (z : Slot) → k < capacity → z ≡ getD (t .slots) k freeSlot → r ≡ validSlot s z → not r ≡ true → record { origin = o; valid = false; state = x } ≡ viewOf t tag
-  view-invalid r z h f e g =
-      let w : false ≡ allOf (validSlot s) (t .slots) = all-no Slot freeSlot (t .slots) k capacity l h (validSlot s) (allOf (validSlot s) (t .slots)) rest r (rw f at e) g in
-      rw w inv
+  module _ (n : ℕ) (e : n ≡ tagLimit (o .settings)) where
+    pub state-seen : (tag : ℕ) (x : State) → x ≡ stateBelow n opened words tag → x ≡ stateAt (tableOf o opened words) tag
+    unfolding stateAt
+    state-seen tag x h = rw e at h
 
-  pub view-valid : capacity ≤ k → record { origin = o; valid = true; state = x } ≡ viewOf t tag
-  view-valid h =
-      let w : true ≡ allOf (validSlot s) (t .slots) = all-yes Slot (t .slots) k capacity l h (validSlot s) (allOf (validSlot s) (t .slots)) rest in
-      rw w inv
+    pub shares-seen : (q : ReadRequest) (r : Bool) → r ≡ anyBelow n (sharesAt q n opened words) → r ≡ sharesOpen (tableOf o opened words) q
+    unfolding sharesOpen sharesAt stateAt
+    shares-seen q r h = rw e at h
 
-pub ruleset view-laws = (view-unlisted, view-listed, view-invalid, view-valid)
+    pub owed-seen : (m : ℕ) → m ≡ sumBelow n (owedAt n opened words) → m ≡ owedSum (tableOf o opened words)
+    unfolding owedSum owedAt stateAt
+    owed-seen m h = rw e at h
 
--- ---- the record of a tag put in
+pub ruleset seen-laws = (valid-unlisted, valid-listed, state-seen, shares-seen)
 
-pub put-within : (t : Table) (tag n : ℕ) (x : State) → n ≡ tagLimit (t .origin .settings) → tag < n
-    → record { origin = t .origin; slots = set (t .slots) tag (record { state = x }) } ≡ putState t tag x
-unfolding putState withState
-put-within t tag n x e h = rw (← e, lt-ltb tag n h)
+-- the records of two tags, in either order
+pub with-order : (t : Table) (u v : ℕ) (x y : State) → (u ≡ v → ⊥) → withState (withState t u x) v y ≡ withState (withState t v y) u x
+unfolding withState
+with-order t u v x y n = rw (opened-order u v n (t .opened) x y, words-order u v n (t .words) x y)
 
-pub put-over : (t : Table) (tag n : ℕ) (x : State) → n ≡ tagLimit (t .origin .settings) → n ≤ tag → t ≡ putState t tag x
-unfolding putState
-put-over t tag n x e h = rw (← e, le-ltb tag n h)
+-- the record of one tag twice: the last counts
+pub with-last : (t : Table) (u : ℕ) (x y : State) → withState (withState t u x) u y ≡ withState t u y
+unfolding withState
+with-last t u x y = rw (opened-last u (t .opened) x y, words-last u (t .words) x y)
 
-pub ruleset put-laws = (put-within, put-over)
+-- a free tag freed in a new table
+pub new-freed : (o : Origin) (u : ℕ) → withState (newTable o) u Free ≡ newTable o
+unfolding withState newTable
+new-freed o u = rw (without-empty (capacity / 64) u, clear-zeros (4 * capacity) u)
 
--- the record that is there, put in
-pub put-same : (t : Table) (tag : ℕ) → putState t tag (stateAt t tag) ≡ t
-unfolding putState withState stateAt
-put-same t tag = go (ltb tag (tagLimit (t .origin .settings)))
-  where
-    same : record { origin = t .origin; slots = set (t .slots) tag (record { state = getD (t .slots) tag freeSlot .state }) } ≡ t
-    same = rw (set-getD (t .slots) tag freeSlot)
-
-    go : (b : Bool) → pick b (record { origin = t .origin; slots = set (t .slots) tag (record { state = pick b (getD (t .slots) tag freeSlot .state) Free }) }) t ≡ t
-    go true = same
-    go false = refl
-
-pub state-over : (t : Table) (tag : ℕ) → leb (tagLimit (t .origin .settings)) tag ≡ true → stateAt t tag ≡ Free
-unfolding stateAt
-state-over t tag h = rw (le-ltb tag (tagLimit (t .origin .settings)) (leb-true (tagLimit (t .origin .settings)) tag h))
-
--- a record put in for a tag below the limit
-pub put-there : (t : Table) (tag : ℕ) (x : State) → leb (tagLimit (t .origin .settings)) tag ≡ false → putState t tag x ≡ withState t tag x
-unfolding putState
-put-there t tag x h = rw (lt-ltb tag (tagLimit (t .origin .settings)) (leb-false (tagLimit (t .origin .settings)) tag h))
+-- ---- making a table
 
 pub make-made : (o : Origin) (r : Bool) → r ≡ settingsListed (o .settings) → r ≡ true → record { table = newTable o; answer = Made } ≡ makeCall o
 unfolding makeCall
@@ -132,41 +88,52 @@ pub ruleset make-laws = (make-made, make-refused)
 
 -- ---- withdraw
 
-pub withdraw-is : (n : ℕ) → (n ≡ 0 → ⊥) → Refused n ≡ withdrawAnswer n
-withdraw-is zero h = absurd (h refl)
-withdraw-is (suc n) h = refl
+module _ (t : Table) (tag : ℕ) (v : Bool) (e : v ≡ validTable t) where
+  pub withdraw-11 : not v ≡ true → 11 ≡ first (withdrawRows t tag)
+  unfolding first
+  withdraw-11 h = rw (← e, not-true v h)
 
-pub withdraw-was : (n : ℕ) → n ≡ 0 → Withdrawn ≡ withdrawAnswer n
-withdraw-was n h = rw h
+  module _ (h : not v ≡ false) (n : ℕ) (f : n ≡ tagLimit (t .origin .settings)) where
+    pub withdraw-20 : n ≤ tag → 20 ≡ first (withdrawRows t tag)
+    unfolding first
+    withdraw-20 k = rw (← e, not-false v h, ← f, le-leb n tag k)
 
-pub record-freed : (n : ℕ) (x : State) → n ≡ 0 → Free ≡ recordWithdrawn n x
-record-freed n x h = rw h
+    module _ (k : tag < n) (x : State) (g : x ≡ stateAt t tag) (r : Bool) (l : r ≡ isOpen x) where
+      pub withdraw-25 : not r ≡ true → 25 ≡ first (withdrawRows t tag)
+      unfolding first
+      withdraw-25 m = rw (← e, not-false v h, ← f, lt-leb n tag k, ← g, ← l, not-true r m)
 
-pub record-kept : (n : ℕ) (x : State) → (n ≡ 0 → ⊥) → x ≡ recordWithdrawn n x
-record-kept zero x h = absurd (h refl)
-record-kept (suc n) x h = refl
+      pub withdraw-0 : not r ≡ false → 0 ≡ first (withdrawRows t tag)
+      unfolding first
+      withdraw-0 m = rw (← e, not-false v h, ← f, lt-leb n tag k, ← g, ← l, not-false r m)
 
-pub ruleset withdrawn-laws = (withdraw-is, withdraw-was, record-freed, record-kept)
+pub ruleset withdraw-numbers = (withdraw-11, withdraw-20, withdraw-25, withdraw-0)
 
-pub withdraw-done : (t : Table) (tag : ℕ) (v : View) (n : ℕ) (x y : State) (a : WithdrawAnswer) (t′ : Table) → v ≡ viewOf t tag → x ≡ v .state
-    → n ≡ first (row 11 (not (v .valid)) ∷ withdrawRules (v .origin) (v .state) tag) → y ≡ recordWithdrawn n x → t′ ≡ putState t tag y → a ≡ withdrawAnswer n
-    → record { table = t′; answer = a } ≡ withdrawCall t tag
-unfolding withdrawCall
-withdraw-done t tag v n x y a t′ e f g h k l = rw (l, k, h, f, e, g ∙ ap (λ (z : View). first (row 11 (not (z .valid)) ∷ withdrawRules (z .origin) (z .state) tag)) e) (go (first (withdrawRows t tag)) refl)
-  where
-    go : (m : ℕ) → first (withdrawRows t tag) ≡ m → record { table = putState t tag (recordWithdrawn m (stateAt t tag)); answer = withdrawAnswer m } ≡ withdrawGives (withdrawAnswer m) t tag
-    go zero z = rw (put-there t tag Free (first-none (withdrawRows t tag) refl z .1 .0))
-    go (suc m) z = rw (put-same t tag)
+module _ (o : Origin) (opened words : List ℕ) (tag n : ℕ) (number-is : n ≡ first (withdrawRows (tableOf o opened words) tag)) where
+  pub withdraw-done : (opened′ words′ : List ℕ) → n ≡ 0 → opened′ ≡ openedWith opened tag Free → words′ ≡ wordsWith words tag Free
+      → record { table = tableOf o opened′ words′; answer = Withdrawn } ≡ withdrawCall (tableOf o opened words) tag
+  unfolding withdrawCall withState
+  withdraw-done opened′ words′ h l m = rw (l, m, ← number-is, h)
+
+  pub withdraw-kept : (n ≡ 0 → ⊥) → record { table = tableOf o opened words; answer = Refused n } ≡ withdrawCall (tableOf o opened words) tag
+  unfolding withdrawCall
+  withdraw-kept h = rw (← number-is) (go n h)
+    where
+      go : (m : ℕ) → (m ≡ 0 → ⊥) → _≡_ {A = Withdrawal} (record { table = tableOf o opened words; answer = Refused m }) (withdrawGives (withdrawAnswer m) (tableOf o opened words) tag)
+      go zero z = absurd (z refl)
+      go (suc m) z = refl
+
+pub ruleset withdraw-laws = (withdraw-done, withdraw-kept)
 
 -- ---- owed
 
-module _ (t : Table) (tag : ℕ) (v : View) (e : v ≡ viewOf t tag) where
-  pub owed-11 : not (v .valid) ≡ true → OwedRefused 11 ≡ owedCall t
+module _ (o : Origin) (opened words : List ℕ) (v : Bool) (e : v ≡ validTable (tableOf o opened words)) where
+  pub owed-11 : not v ≡ true → OwedRefused 11 ≡ owedCall (tableOf o opened words)
   unfolding owedCall
-  owed-11 h = rw (not-true (validTable t) (rw e at h))
+  owed-11 h = rw (← e, not-true v h)
 
-  pub owed-sum : (n : ℕ) → not (v .valid) ≡ false → n ≡ sumOf owedInSlot (t .slots) → Owed n ≡ owedCall t
+  pub owed-sum : (n m : ℕ) → not v ≡ false → n ≡ tagLimit (o .settings) → m ≡ sumBelow n (owedAt n opened words) → Owed m ≡ owedCall (tableOf o opened words)
   unfolding owedCall
-  owed-sum n h q = rw (not-false (validTable t) (rw e at h), q)
+  owed-sum n m h l q = rw (← e, not-false v h, owed-seen o opened words n l m q)
 
 pub ruleset owed-laws = (owed-11, owed-sum)

@@ -1,11 +1,11 @@
 -- Laws of take, in the words of the returns.
 use Prim.Native.Nat.{ℕ, zero, suc, _+_, _^_, _≤_}
 use mathlib.Core.Path.{_≡_, refl, sym, ap, _∙_}
-use mathlib.Core.Bool.{Bool, true, false, _||_, not, true≢false}
+use mathlib.Core.Bool.{Bool, true, false, not, true≢false}
 use mathlib.Core.List.{List}
-use lib.Dec.{eqb, ltb, leb}
-use lib.ListN.{length, drop}
-use borrow.Author.Tests.{le-ltb, leb-true, not-true, not-false}
+use lib.Dec.{ltb}
+use lib.ListN.{length}
+use borrow.Author.Tests.{not-true, not-false}
 use Rattle.bits.specs.Choice.{pick}
 use Rattle.bits.specs.Word.{byte}
 use Rattle.tlp.specs.Rows.{first}
@@ -24,18 +24,18 @@ use Rattle.read_rules.specs.declared.piece.Piece.{Piece}
 use Rattle.read_rules.specs.declared.continuation.Origin.{Origin}
 use Rattle.read_rules.specs.Pieces.{ofCompletions, isCompletion, pieceOf}
 use Rattle.read_slots.specs.declared.State.{State}
-use Rattle.read_slots.specs.declared.State.the-variants.{Free, Open}
+use Rattle.read_slots.specs.declared.State.the-variants.{Open}
 use Rattle.reads.specs.declared.table.Table.{Table}
-use Rattle.reads.specs.declared.table.View.{View}
+use Rattle.read_slots.specs.Records.{openedWith, wordsWith}
+use Rattle.reads.specs.declared.table.Taking.{Taking}
 use Rattle.reads.specs.declared.take.Outcome.{Outcome}
 use Rattle.read_answers.specs.declared.TakeAnswer.{TakeAnswer}
 use Rattle.read_answers.specs.declared.TakeAnswer.the-variants.{More, Done, Failed, Poisoned, Unread, Refused}
-use Rattle.reads.specs.Tables.{tagLimit, stateAt, validTable}
-use Rattle.reads.proofs.TableLaws.{state-over, put-same, put-there}
-use Rattle.read_answers.specs.Takes.{noRead, readIn, tagOf, pieceRows, outcome, numberOr, packetAnswer}
+use Rattle.reads.specs.Tables.{tableOf, stateAt, withState, validTable}
+use Rattle.read_answers.specs.Takes.{readIn, tagOf, packetAnswer}
 use Rattle.read_answers.proofs.TakeLaws.{answer-other}
 use Rattle.reads.specs.TakeCall.{advanced, tableGiven, storeGiven, packetTaking, packetStore, answerTaking, answerStore, takeCall, takeStore}
-use Rattle.reads.specs.Steps.{viewOf, putState, recordGiven, packetOutcome, answerOutcome, takeOutcome, packetLaid, answerLaid, takeLaid}
+use Rattle.reads.specs.Steps.{takes, recordGiven, packetOutcome, answerOutcome, takeOutcome, outcomeOf, packetLaid, answerLaid, takeLaid, laidOf}
 
 -- ---- what an answer does to table and store
 
@@ -66,31 +66,31 @@ module _ (o : Origin) (x : State) (p : Packet) (a : TakeAnswer) where
 
 -- ---- what bytes do
 
-module _ (v : View) (b : List ℕ) where
-  pub outcome-11 : (room : ℕ) → not (v .valid) ≡ true → record { answer = Refused 11; state = v .state } ≡ takeOutcome v b room
+module _ (v : Bool) (o : Origin) (x : State) (b : List ℕ) where
+  pub outcome-11 : (room : ℕ) → not v ≡ true → record { answer = Refused 11; state = x } ≡ takeOutcome v o x b room
   unfolding takeOutcome
-  outcome-11 room h = rw (not-true (v .valid) h)
+  outcome-11 room h = rw (not-true v h)
 
-  pub laid-11 : (store : List ℕ) → not (v .valid) ≡ true → store ≡ takeLaid v b store
+  pub laid-11 : (store : List ℕ) → not v ≡ true → store ≡ takeLaid v o x b store
   unfolding takeLaid
-  laid-11 store h = rw (not-true (v .valid) h)
+  laid-11 store h = rw (not-true v h)
 
-  module _ (h : not (v .valid) ≡ false) (a : ReadAnswer) (f : a ≡ readPacket (v .origin .settings) b) where
-    pub outcome-unread : (room : ℕ) (r : Refusal) → a ≡ Unreadable r → record { answer = Unread r; state = v .state } ≡ takeOutcome v b room
+  module _ (h : not v ≡ false) (a : ReadAnswer) (f : a ≡ readPacket (o .settings) b) where
+    pub outcome-unread : (room : ℕ) (r : Refusal) → a ≡ Unreadable r → record { answer = Unread r; state = x } ≡ takeOutcome v o x b room
     unfolding takeOutcome
-    outcome-unread room r g = rw (not-false (v .valid) h, ← f, g)
+    outcome-unread room r g = rw (not-false v h, ← f, g)
 
-    pub laid-unread : (store : List ℕ) (r : Refusal) → a ≡ Unreadable r → store ≡ takeLaid v b store
+    pub laid-unread : (store : List ℕ) (r : Refusal) → a ≡ Unreadable r → store ≡ takeLaid v o x b store
     unfolding takeLaid
-    laid-unread store r g = rw (not-false (v .valid) h, ← f, g)
+    laid-unread store r g = rw (not-false v h, ← f, g)
 
-    pub outcome-read : (room : ℕ) (p : Packet) (y : Outcome) → a ≡ Accepted p → y ≡ packetOutcome (v .origin) (v .state) p room → y ≡ takeOutcome v b room
+    pub outcome-read : (room : ℕ) (p : Packet) (y : Outcome) → a ≡ Accepted p → y ≡ packetOutcome o x p room → y ≡ takeOutcome v o x b room
     unfolding takeOutcome
-    outcome-read room p y g q = rw (not-false (v .valid) h, ← f, g) q
+    outcome-read room p y g q = rw (not-false v h, ← f, g) q
 
-    pub laid-read : (store : List ℕ) (p : Packet) (d store′ : List ℕ) → a ≡ Accepted p → d ≡ payloadOf p b → store′ ≡ packetLaid (v .origin) (v .state) p d store → store′ ≡ takeLaid v b store
+    pub laid-read : (store : List ℕ) (p : Packet) (d store′ : List ℕ) → a ≡ Accepted p → d ≡ payloadOf p b → store′ ≡ packetLaid o x p d store → store′ ≡ takeLaid v o x b store
     unfolding takeLaid
-    laid-read store p d store′ g k q = rw (not-false (v .valid) h, ← f, g, ← k) q
+    laid-read store p d store′ g k q = rw (not-false v h, ← f, g, ← k) q
 
 pub ruleset outcome-laws = (outcome-11, outcome-unread, outcome-read)
 
@@ -125,44 +125,15 @@ module _ (o : Origin) (p : Packet) (room : ℕ) where
   other : (x : State) → isCompletion p ≡ false → packetAnswer o x p room ≡ Refused 29
   other x h = sym (answer-other o x p room (isCompletion p) refl (ap not h))
 
-  -- of a closed tag: b is whether the packet is a completion, c whether its requester ID is the table's
-  abbrev closedAnswer : Bool → Bool → TakeAnswer
-  closedAnswer b c = numberOr (pick (not b) 29 (pick (not c || true) 30 (first (drop 1 (pieceRows o Free (pieceOf p) room))))) (outcome noRead (pieceOf p))
-
-  -- a tag over the limit is not open
-  module _ (t : Table) (tag : ℕ) (over : leb (tagLimit (t .origin .settings)) tag ≡ true) where
-    kept : (x : State) → putState t tag x ≡ t
-    unfolding putState
-    kept x = rw (le-ltb tag (tagLimit (t .origin .settings)) (leb-true (tagLimit (t .origin .settings)) tag over))
-
-    closed : putState t tag (recordGiven (packetAnswer o Free p room) Free (pieceOf p .length)) ≡ tableGiven (packetAnswer o Free p room) t (pieceOf p)
-    unfolding packetAnswer first
-    closed = go (isCompletion p) (eqb (pieceOf p .requester) (o .requester))
-      where
-        go : (b c : Bool) → putState t tag (recordGiven (closedAnswer b c) Free (pieceOf p .length)) ≡ tableGiven (closedAnswer b c) t (pieceOf p)
-        go false c = kept Free
-        go true true = kept Free
-        go true false = kept Free
-
-module _ (t : Table) (p : Packet) (room : ℕ) where
-  -- the record put in is what the table after the answer has
-  put-given : putState t (tagOf p) (recordGiven (packetAnswer (t .origin) (stateAt t (tagOf p)) p room) (stateAt t (tagOf p)) (pieceOf p .length))
-      ≡ tableGiven (packetAnswer (t .origin) (stateAt t (tagOf p)) p room) t (pieceOf p)
-  put-given = go (leb (tagLimit (t .origin .settings)) (tagOf p)) refl
-    where
-      below : leb (tagLimit (t .origin .settings)) (tagOf p) ≡ false → (a : TakeAnswer) → putState t (tagOf p) (recordGiven a (stateAt t (tagOf p)) (pieceOf p .length)) ≡ tableGiven a t (pieceOf p)
-      below h More = put-there t (tagOf p) _ h
-      below h Done = put-there t (tagOf p) _ h
-      below h (Failed s) = put-there t (tagOf p) _ h
-      below h Poisoned = put-there t (tagOf p) _ h
-      below h (Unread r) = put-same t (tagOf p)
-      below h (Refused n) = put-same t (tagOf p)
-
-      go : (b : Bool) → leb (tagLimit (t .origin .settings)) (tagOf p) ≡ b
-          → putState t (tagOf p) (recordGiven (packetAnswer (t .origin) (stateAt t (tagOf p)) p room) (stateAt t (tagOf p)) (pieceOf p .length))
-          ≡ tableGiven (packetAnswer (t .origin) (stateAt t (tagOf p)) p room) t (pieceOf p)
-      go true h = rw (state-over t (tagOf p) h) (closed (t .origin) p room t (tagOf p) h)
-      go false h = below h (packetAnswer (t .origin) (stateAt t (tagOf p)) p room)
+-- what is stored is what the table after the answer has
+stored-given : (t : Table) (p : Packet) (a : TakeAnswer)
+    → pick (takes a) (withState t (tagOf p) (recordGiven a (stateAt t (tagOf p)) (pieceOf p .length))) t ≡ tableGiven a t (pieceOf p)
+stored-given t p More = refl
+stored-given t p Done = refl
+stored-given t p (Failed s) = refl
+stored-given t p Poisoned = refl
+stored-given t p (Unread r) = refl
+stored-given t p (Refused n) = refl
 
 -- ---- the whole call
 
@@ -177,14 +148,17 @@ module _ (t : Table) (s : List ℕ) where
   abbrev outcomeFrom : ℕ → Bool → ℕ → Outcome
   outcomeFrom room b n = pick b (answerOutcome (t .origin) seen (answerOf n packet) room) (record { answer = Refused 11; state = seen })
 
-  packet-done : (room : ℕ) → record { table = putState t (byte s 10) (packetOutcome (t .origin) seen packet room .state); answer = packetAnswer (t .origin) seen packet room } ≡ packetTaking t packet room
+  -- the table with what is stored of an outcome
+  abbrev after : Outcome → Taking
+  after r = record { table = pick (takes (r .answer)) (withState t (byte s 10) (r .state)) t; answer = r .answer }
+
+  packet-done : (room : ℕ) → after (packetOutcome (t .origin) seen packet room) ≡ packetTaking t packet room
   unfolding packetTaking
   packet-done room = go (isCompletion packet) refl
     where
-      go : (b : Bool) → isCompletion packet ≡ b
-          → record { table = putState t (byte s 10) (packetOutcome (t .origin) seen packet room .state); answer = packetAnswer (t .origin) seen packet room } ≡ packetTaking t packet room
-      go true h = rw (← byte-ten (typeAt (byte s 0)) s h, put-given t packet room)
-      go false h = rw (other (t .origin) packet room seen h, other (t .origin) packet room (stateAt t (tagOf packet)) h, put-same t (byte s 10))
+      go : (b : Bool) → isCompletion packet ≡ b → after (packetOutcome (t .origin) seen packet room) ≡ packetTaking t packet room
+      go true h = rw (← byte-ten (typeAt (byte s 0)) s h, stored-given t packet _)
+      go false h = rw (other (t .origin) packet room seen h, other (t .origin) packet room (stateAt t (tagOf packet)) h)
 
   packet-left : (payload store : List ℕ) → packetLaid (t .origin) seen packet payload store ≡ packetStore t packet payload store
   unfolding packetStore
@@ -194,17 +168,16 @@ module _ (t : Table) (s : List ℕ) where
       go true h = rw (← byte-ten (typeAt (byte s 0)) s h)
       go false h = rw (other (t .origin) packet (length store) seen h, other (t .origin) packet (length store) (stateAt t (tagOf packet)) h)
 
-  whole : (room : ℕ) → record { table = putState t (byte s 10) (takeOutcome (viewOf t (byte s 10)) s room .state); answer = takeOutcome (viewOf t (byte s 10)) s room .answer } ≡ takeCall t s room
+  whole : (room : ℕ) → after (takeOutcome (validTable t) (t .origin) seen s room) ≡ takeCall t s room
   unfolding takeCall takeOutcome readPacket
   whole room = go (validTable t) (first (readRows (t .origin .settings) s))
     where
-      go : (b : Bool) (n : ℕ) → record { table = putState t (byte s 10) (outcomeFrom room b n .state); answer = outcomeFrom room b n .answer }
-          ≡ pick b (answerTaking t (answerOf n packet) room) (record { table = t; answer = Refused 11 })
+      go : (b : Bool) (n : ℕ) → after (outcomeFrom room b n) ≡ pick b (answerTaking t (answerOf n packet) room) (record { table = t; answer = Refused 11 })
       go true zero = packet-done room
-      go true (suc n) = rw (put-same t (byte s 10))
-      go false n = rw (put-same t (byte s 10))
+      go true (suc n) = refl
+      go false n = refl
 
-  left : (store : List ℕ) → takeLaid (viewOf t (byte s 10)) s store ≡ takeStore t s store
+  left : (store : List ℕ) → takeLaid (validTable t) (t .origin) seen s store ≡ takeStore t s store
   unfolding takeLaid takeStore readPacket
   left store = go (validTable t) (first (readRows (t .origin .settings) s))
     where
@@ -213,9 +186,33 @@ module _ (t : Table) (s : List ℕ) where
       go true (suc n) = refl
       go false n = refl
 
-  module _ (tag : ℕ) (v : View) (e : tag ≡ byte s 10) (f : v ≡ viewOf t tag) where
-    pub take-done : (room : ℕ) (r : Outcome) (t′ : Table) → r ≡ takeOutcome v s room → t′ ≡ putState t tag (r .state) → record { table = t′; answer = r .answer } ≡ takeCall t s room
-    take-done room r t′ g h = rw (h, g, f, e) (whole room)
+module _ (t : Table) (tag : ℕ) (v : Bool) (x : State) (e : v ≡ validTable t) (f : x ≡ stateAt t tag) (s : List ℕ) where
+  pub outcome-seen : (room : ℕ) (d : Outcome) → d ≡ takeOutcome v (t .origin) x s room → d ≡ outcomeOf t tag s room
+  outcome-seen room d g = rw (e, f) at g
 
-    pub take-left : (store store′ : List ℕ) → store′ ≡ takeLaid v s store → store′ ≡ takeStore t s store
-    take-left store store′ g = g ∙ rw (f, e) (left store)
+  pub laid-seen : (store store′ : List ℕ) → store′ ≡ takeLaid v (t .origin) x s store → store′ ≡ laidOf t tag s store
+  laid-seen store store′ g = rw (e, f) at g
+
+module _ (o : Origin) (opened words s : List ℕ) (tag : ℕ) (e : tag ≡ byte s 10) where
+  module _ (room : ℕ) (d : Outcome) (g : d ≡ outcomeOf (tableOf o opened words) tag s room) (r : Bool) (h : r ≡ takes (d .answer)) where
+    outcome-is : after (tableOf o opened words) s d ≡ takeCall (tableOf o opened words) s room
+    outcome-is = ap (after (tableOf o opened words) s) (rw e at g) ∙ whole (tableOf o opened words) s room
+
+    pub take-done : (opened′ words′ : List ℕ) → not r ≡ false → opened′ ≡ openedWith opened tag (d .state) → words′ ≡ wordsWith words tag (d .state)
+        → record { table = tableOf o opened′ words′; answer = d .answer } ≡ takeCall (tableOf o opened words) s room
+    unfolding withState
+    take-done opened′ words′ n l m = same ∙ outcome-is
+      where
+        same : record { table = tableOf o opened′ words′; answer = d .answer } ≡ after (tableOf o opened words) s d
+        same = rw (← e, ← h, not-false r n, l, m)
+
+    pub take-kept : not r ≡ true → record { table = tableOf o opened words; answer = d .answer } ≡ takeCall (tableOf o opened words) s room
+    take-kept n = same ∙ outcome-is
+      where
+        same : record { table = tableOf o opened words; answer = d .answer } ≡ after (tableOf o opened words) s d
+        same = rw (← h, not-true r n)
+
+  pub take-left : (store store′ : List ℕ) → store′ ≡ laidOf (tableOf o opened words) tag s store → store′ ≡ takeStore (tableOf o opened words) s store
+  take-left store store′ g = rw e at g ∙ left (tableOf o opened words) s store
+
+pub ruleset take-laws = (take-done, take-kept)

@@ -2,10 +2,9 @@
 use crate::answer::OpenAnswer;
 use crate::table::Opening;
 use crate::table::Table;
-use crate::table::View;
-use crate::table::put;
+use crate::table::is_valid;
+use crate::table::state_at;
 use crate::table::tag_limit;
-use crate::table::view_of;
 use read_rules::continuation::Origin;
 use read_rules::request::ReadRequest;
 use read_rules::request::request_number;
@@ -14,40 +13,40 @@ use read_rules::validity::Read;
 use read_rules::window::place_number;
 use read_slots::State;
 use read_slots::is_open;
-use read_slots::window_taken;
+use read_slots::record::put_state;
+use read_slots::scans::window_taken;
+use read_words::tag_set::TagSet;
+use read_words::words::Words;
 use tlp_write::WriteAnswer;
-use tlp_write::write;
+use tlp_write::lay_packet;
 ghost use mathlib.Core.Path.{_≡_};
-ghost use mathlib.Core.Bool.{not};
 ghost use mathlib.Core.List.{[], _∷_};
 ghost use Prim.Native.Nat.{_<_, _^_};
 ghost use lib.Dec.{eqb};
 ghost use lib.ListN.{length};
 ghost use Rattle.bits.specs.Choice.{pick};
-ghost use Rattle.scan.specs.Scans.{anyOf};
 ghost use Rattle.tlp.specs.Rows.{row, first};
-ghost use Rattle.tlp_write.specs.Write.{writePacket, writeOut};
-ghost use Rattle.read_slots.specs.Slots.{sharesWith};
-ghost use Rattle.reads.specs.OpenCall.{headerPacket, openCall, openOut};
-ghost use Rattle.reads.specs.Steps.{earlySeen, recordOpened, headerAnswer};
+ghost use Rattle.tlp_write.specs.Write.{layAnswer, layOut};
+ghost use Rattle.reads.specs.Tables.{tableOf, sharesOpen};
+ghost use Rattle.reads.specs.OpenCall.{headerPacket, earlyRows, openCall, openOut};
+ghost use Rattle.reads.specs.Lent.{openingOf};
+ghost use Rattle.reads.specs.Steps.{earlySeen, headerAnswer, opens};
 
-// The first that holds of open's rows before 24; 0 where none does.
-fn early_number(v: View, q: ReadRequest, tag: u32, room: u64) -> u32
-    ensures { λ n. ⌜ n ≡ first (earlySeen v q tag room) ⌝ }
+// The first that holds of open's rows before 24; 0 where none does. x is the tag's record.
+fn early_number(valid: bool, o: Origin, x: State, q: ReadRequest, tag: u32, room: u64) -> u32
+    ensures { λ n. ⌜ n ≡ first (earlySeen valid o x q tag room) ⌝ }
 {
-    if !v.valid {
+    if !valid {
         return 11;
     }
     let given = request_number(q);
     if given != 0 {
         return given;
     }
-    let o = v.origin;
     let s = o.settings;
     if tag_limit(s) <= tag {
         return 20;
     }
-    let x = v.state;
     if is_open(x) {
         return 21;
     }
@@ -55,32 +54,48 @@ fn early_number(v: View, q: ReadRequest, tag: u32, room: u64) -> u32
 }
 
 // The same with 24. 12 is the writer's.
-fn window_number(n: u32, t: Table, q: ReadRequest) -> u32
-    ensures { λ m. ⌜ m ≡ pick (eqb n 0) (first (row 24 (anyOf (sharesWith q) (t .slots)) ∷ [])) n ⌝ }
+fn window_number(n: u32, o: Origin, opened: &TagSet, words: &Words, q: ReadRequest) -> u32
+    ensures { λ m. ⌜ m ≡ pick (eqb n 0) (first (row 24 (sharesOpen (tableOf o (now (opened .entry)) (now (words .entry))) q) ∷ [])) n ⌝ }
 {
     if n != 0 {
         return n;
     }
-    let slots = t.slots;
-    if window_taken(q, slots) {
+    if window_taken(q, tag_limit(o.settings) as usize, opened, words) {
         return 24;
     }
     0
 }
 
-// The header over the front of the output, by the packet writer. An ID has 16 bits.
-fn write_header(o: Origin, q: ReadRequest, tag: u8, out: &mut [u8]) -> WriteAnswer
-    ensures { λ a. ⌜ (a ≡ writePacket (o .settings) (headerPacket o q tag) 0 (length (now (out .entry)))) × (o .requester < 2 ^ 16) ⌝ }
-    ensures { λ _. ⌜ now (out .exit) ≡ writeOut (o .settings) (headerPacket o q tag) [] (now (out .entry)) ⌝ }
+// The first that holds of open's rows before 12; 0 where none does.
+fn open_number(
+    o: Origin,
+    opened: &TagSet,
+    words: &Words,
+    q: ReadRequest,
+    tag: u32,
+    room: u64,
+) -> u32
+    ensures { λ n. ⌜ n ≡ first (earlyRows (tableOf o (now (opened .entry)) (now (words .entry))) q tag room) ⌝ }
 {
-    write(o.settings, request_packet(o.requester, tag, q), b"", out)
+    let valid = is_valid(o, opened, words);
+    let early = early_number(valid, o, state_at(o, opened, words, tag), q, tag, room);
+    window_number(early, o, opened, words, q)
+}
+
+// The header over the front of the output. Open has tested the request's fields, so the writer need not.
+fn write_header(o: Origin, q: ReadRequest, tag: u8, out: &mut [u8]) -> WriteAnswer
+    ensures { λ a. ⌜ a ≡ layAnswer (o .settings .mps) (headerPacket o q tag) 0 (length (now (out .entry))) ⌝ }
+    ensures { λ _. ⌜ now (out .exit) ≡ layOut (o .settings .mps) (headerPacket o q tag) [] (now (out .entry)) ⌝ }
+{
+    let s = o.settings;
+    lay_packet(s.mps, request_packet(o.requester, tag, q), b"", out)
 }
 
 // What open answers, from the number of the rows before 12; without one the header is written.
 fn open_answer(n: u32, o: Origin, q: ReadRequest, tag: u32, out: &mut [u8]) -> OpenAnswer
     requires { ⌜ (n ≡ 0 → tag < 2 ^ 8) ⌝ }
-    ensures { λ a. ⌜ (a ≡ headerAnswer n (writePacket (o .settings) (headerPacket o q tag) 0 (length (now (out .entry))))) × (o .requester < 2 ^ 16) ⌝ }
-    ensures { λ _. ⌜ now (out .exit) ≡ pick (eqb n 0) (writeOut (o .settings) (headerPacket o q tag) [] (now (out .entry))) (now (out .entry)) ⌝ }
+    ensures { λ a. ⌜ a ≡ headerAnswer n (layAnswer (o .settings .mps) (headerPacket o q tag) 0 (length (now (out .entry)))) ⌝ }
+    ensures { λ _. ⌜ now (out .exit) ≡ pick (eqb n 0) (layOut (o .settings .mps) (headerPacket o q tag) [] (now (out .entry))) (now (out .entry)) ⌝ }
 {
     if n != 0 {
         return OpenAnswer::Refused(n);
@@ -92,32 +107,55 @@ fn open_answer(n: u32, o: Origin, q: ReadRequest, tag: u32, out: &mut [u8]) -> O
     }
 }
 
-fn record_opened(a: OpenAnswer, q: ReadRequest, x: State) -> State
-    ensures { λ y. ⌜ y ≡ recordOpened a q x ⌝ }
+// Whether a record is stored.
+fn opens(a: OpenAnswer) -> bool
+    ensures { λ r. ⌜ r ≡ opens a ⌝ }
 {
     match a {
-        OpenAnswer::Refused(_) => x,
-        OpenAnswer::Opened(_) => State::Open(Read {
-            request: q,
-            taken: 0,
-        }),
+        OpenAnswer::Refused(_) => false,
+        OpenAnswer::Opened(_) => true,
     }
+}
+
+// Opens a read, over what is lent of a table. Set and words change where it is accepted, and there alone.
+pub fn open_lent(
+    o: Origin,
+    opened: &mut TagSet,
+    words: &mut Words,
+    q: ReadRequest,
+    tag: u32,
+    store: &[u8],
+    out: &mut [u8],
+) -> OpenAnswer
+    ensures { λ a. ⌜ openingOf o (now (opened .exit)) (now (words .exit)) a ≡ openCall (tableOf o (now (opened .entry)) (now (words .entry))) q tag (length (now (store .entry))) (length (now (out .entry))) ⌝ }
+    ensures { λ _. ⌜ now (out .exit) ≡ openOut (tableOf o (now (opened .entry)) (now (words .entry))) q tag (length (now (store .entry))) (now (out .entry)) ⌝ }
+{
+    let n = open_number(o, opened, words, q, tag, store.len() as u64);
+    let answer = open_answer(n, o, q, tag, out);
+    if !opens(answer) {
+        return answer;
+    }
+    let x = State::Open(Read {
+        request: q,
+        taken: 0,
+    });
+    put_state(opened, words, tag as usize, x);
+    answer
 }
 
 impl Table {
     // Opens a read and writes its header over the front of the output. The store is only measured.
-    pub fn open(self, q: ReadRequest, tag: u32, store: &[u8], out: &mut [u8]) -> Opening
+    pub fn open(mut self, q: ReadRequest, tag: u32, store: &[u8], out: &mut [u8]) -> Opening
         ensures { λ r. ⌜ r ≡ openCall self q tag (length (now (store .entry))) (length (now (out .entry))) ⌝ }
         ensures { λ _. ⌜ now (out .exit) ≡ openOut self q tag (length (now (store .entry))) (now (out .entry)) ⌝ }
     {
-        let v = view_of(self, tag);
-        let x = v.state;
-        let early = early_number(v, q, tag, store.len() as u64);
-        let n = window_number(early, self, q);
-        let a = open_answer(n, v.origin, q, tag, out);
+        let o = self.origin;
+        let mut opened = self.opened;
+        let answer = open_lent(o, &mut opened, &mut self.words, q, tag, store, out);
+        self.opened = opened;
         Opening {
-            table: put(self, tag, record_opened(a, q, x)),
-            answer: a,
+            table: self,
+            answer: answer,
         }
     }
 }

@@ -1,33 +1,33 @@
-// The table: what it was made from, and a slot for each tag.
+// The table: what it was made from, the set of its open tags, and the words of their reads.
 use crate::answer::MakeAnswer;
 use crate::answer::OpenAnswer;
 use crate::answer::OwedAnswer;
 use crate::answer::WithdrawAnswer;
 use read_answers::TakeAnswer;
 use read_rules::continuation::Origin;
-use read_slots::CAPACITY;
-use read_slots::Slot;
 use read_slots::State;
 use read_slots::is_open;
-use read_slots::slot_valid;
-use read_slots::slots_owed;
+use read_slots::record::put_state;
+use read_slots::record::state_below;
+use read_slots::scans::all_valid;
+use read_slots::scans::tags_owed;
+use read_words::CAPACITY;
+use read_words::tag_set::TagSet;
+use read_words::words::Words;
 use tlp::settings::Settings;
 use tlp::settings::settings_listed;
 ghost use mathlib.Core.Path.{_≡_};
-ghost use mathlib.Core.Bool.{not};
-ghost use mathlib.Core.List.{_∷_};
-ghost use Prim.Native.Nat.{_<_};
-ghost use lib.Dec.{ltb};
-ghost use Rattle.bits.specs.Choice.{pick};
-ghost use Rattle.tlp.specs.Rows.{row, first};
-ghost use Rattle.reads.specs.Tables.{capacity, tagLimit, newTable};
-ghost use Rattle.reads.specs.OtherCalls.{makeCall, withdrawRules, withdrawAnswer, withdrawCall, owedCall};
-ghost use Rattle.reads.specs.Steps.{viewOf, putState, recordWithdrawn};
+ghost use Rattle.tlp.specs.Rows.{first};
+ghost use Rattle.reads.specs.Tables.{tagLimit, tableOf, stateAt, validTable};
+ghost use Rattle.reads.specs.OtherCalls.{makeCall, withdrawRows, withdrawCall, owedCall};
+ghost use Rattle.reads.specs.Lent.{withdrawalOf};
 
-// Fields are public, so that a table that no call reaches can be made and tried.
+// Fields are public, so that a table that no call reaches can be made and tried. A table is given to nobody but its methods: who is given one
+// copies it. Each of them is a thin call of a core that is given the origin and lent set and words.
 pub struct Table {
     pub origin: Origin,
-    pub slots: [Slot; CAPACITY],
+    pub opened: TagSet,
+    pub words: Words,
 }
 
 // Each call hands the next table back beside its answer.
@@ -58,113 +58,60 @@ pub(crate) fn tag_limit(s: Settings) -> u32
     32
 }
 
-// What a call looks at: what the table was made from, whether it is valid, and one tag's record.
-pub(crate) struct View {
-    pub origin: Origin,
-    pub valid: bool,
-    pub state: State,
-}
-
-// A tag's slot; the first one for a tag over the limit.
-fn slot_index(s: Settings, tag: u32) -> usize
-    ensures { λ i. ⌜ (i ≡ pick (ltb tag (tagLimit s)) tag 0) × (i < capacity) ⌝ }
+// Whether the table that the parts make is valid: what 11 denies.
+pub(crate) fn is_valid(o: Origin, opened: &TagSet, words: &Words) -> bool
+    ensures { λ r. ⌜ r ≡ validTable (tableOf o (now (opened .entry)) (now (words .entry))) ⌝ }
 {
-    if tag < tag_limit(s) {
-        return tag as usize;
-    }
-    0
-}
-
-// A tag's record, from that slot.
-fn record_in(s: Settings, tag: u32, y: Slot) -> State
-    ensures { λ x. ⌜ x ≡ pick (ltb tag (tagLimit s)) (y .state) State.Free ⌝ }
-{
-    if tag < tag_limit(s) {
-        return y.state;
-    }
-    State::Free
-}
-
-// The record is read and the slots are scanned in one function, since each function that is given a table copies it.
-pub(crate) fn view_of(t: Table, tag: u32) -> View
-    ensures { λ v. ⌜ v ≡ viewOf t tag ⌝ }
-{
-    let o = t.origin;
     let s = o.settings;
-    let i = slot_index(s, tag);
-    let y = t.slots[i];
-    let x = record_in(s, tag, y);
     if !settings_listed(s) {
-        return View {
-            origin: o,
-            valid: false,
-            state: x,
-        };
+        return false;
     }
-    let mut k: usize = 0;
-    while k < CAPACITY {
-        let z = t.slots[k];
-        if !slot_valid(s, z) {
-            return View {
-                origin: o,
-                valid: false,
-                state: x,
-            };
-        }
-        k += 1;
-    }
-    View {
-        origin: o,
-        valid: true,
-        state: x,
-    }
+    all_valid(s, tag_limit(s) as usize, opened, words)
 }
 
-// Every change of a slot. It returns once: of two returns each would copy the table once more.
-pub(crate) fn put(mut t: Table, tag: u32, x: State) -> Table
-    ensures { λ n. ⌜ n ≡ putState t tag x ⌝ }
+pub(crate) fn state_at(o: Origin, opened: &TagSet, words: &Words, tag: u32) -> State
+    ensures { λ x. ⌜ x ≡ stateAt (tableOf o (now (opened .entry)) (now (words .entry))) tag ⌝ }
 {
-    let o = t.origin;
-    if tag < tag_limit(o.settings) {
-        t.slots[tag as usize] = Slot { state: x };
-    }
-    t
+    state_below(tag_limit(o.settings) as usize, opened, words, tag as usize)
 }
 
 // The first of 11, 20 and 25 that holds; 0 where none does.
-fn withdraw_number(v: View, tag: u32) -> u32
-    ensures { λ n. ⌜ n ≡ first (row 11 (not (v .valid)) ∷ withdrawRules (v .origin) (v .state) tag) ⌝ }
+fn withdraw_number(o: Origin, opened: &TagSet, words: &Words, tag: u32) -> u32
+    ensures { λ n. ⌜ n ≡ first (withdrawRows (tableOf o (now (opened .entry)) (now (words .entry))) tag) ⌝ }
 {
-    if !v.valid {
+    if !is_valid(o, opened, words) {
         return 11;
     }
-    let o = v.origin;
     if tag_limit(o.settings) <= tag {
         return 20;
     }
-    let x = v.state;
+    let x = state_at(o, opened, words, tag);
     if !is_open(x) {
         return 25;
     }
     0
 }
 
-fn withdraw_answer(n: u32) -> WithdrawAnswer
-    ensures { λ a. ⌜ a ≡ withdrawAnswer n ⌝ }
+// Withdraws a read, over what is lent of a table. Set and words change where it is accepted, and there alone.
+pub fn withdraw_lent(o: Origin, opened: &mut TagSet, words: &mut Words, tag: u32) -> WithdrawAnswer
+    ensures { λ a. ⌜ withdrawalOf o (now (opened .exit)) (now (words .exit)) a ≡ withdrawCall (tableOf o (now (opened .entry)) (now (words .entry))) tag ⌝ }
 {
-    if n == 0 {
-        return WithdrawAnswer::Withdrawn;
+    let n = withdraw_number(o, opened, words, tag);
+    if n != 0 {
+        return WithdrawAnswer::Refused(n);
     }
-    WithdrawAnswer::Refused(n)
+    put_state(opened, words, tag as usize, State::Free);
+    WithdrawAnswer::Withdrawn
 }
 
-fn record_withdrawn(n: u32, x: State) -> State
-    ensures { λ y. ⌜ y ≡ recordWithdrawn n x ⌝ }
+// The doublewords still owed, over what is lent of a table.
+pub fn owed_lent(o: Origin, opened: &TagSet, words: &Words) -> OwedAnswer
+    ensures { λ r. ⌜ r ≡ owedCall (tableOf o (now (opened .entry)) (now (words .entry))) ⌝ }
 {
-    if n == 0 {
-        return State::Free;
+    if !is_valid(o, opened, words) {
+        return OwedAnswer::Refused(11);
     }
-    x
+    OwedAnswer::Owed(tags_owed(tag_limit(o.settings) as usize, opened, words))
 }
 
 impl Table {
@@ -172,13 +119,13 @@ impl Table {
     pub fn make(settings: Settings, requester: u16) -> Making
         ensures { λ r. ⌜ r ≡ makeCall (record { settings = settings; requester = requester }) ⌝ }
     {
-        let free = Slot { state: State::Free };
         let t = Table {
             origin: Origin {
                 settings: settings,
                 requester: requester,
             },
-            slots: [free; CAPACITY],
+            opened: [0; CAPACITY / 64],
+            words: [0; 4 * CAPACITY],
         };
         if settings_listed(settings) {
             return Making {
@@ -192,15 +139,16 @@ impl Table {
         }
     }
 
-    pub fn withdraw(self, tag: u32) -> Withdrawal
+    pub fn withdraw(mut self, tag: u32) -> Withdrawal
         ensures { λ r. ⌜ r ≡ withdrawCall self tag ⌝ }
     {
-        let v = view_of(self, tag);
-        let x = v.state;
-        let n = withdraw_number(v, tag);
+        let o = self.origin;
+        let mut opened = self.opened;
+        let answer = withdraw_lent(o, &mut opened, &mut self.words, tag);
+        self.opened = opened;
         Withdrawal {
-            table: put(self, tag, record_withdrawn(n, x)),
-            answer: withdraw_answer(n),
+            table: self,
+            answer: answer,
         }
     }
 
@@ -208,11 +156,8 @@ impl Table {
     pub fn owed(self) -> OwedAnswer
         ensures { λ r. ⌜ r ≡ owedCall self ⌝ }
     {
-        let v = view_of(self, 0);
-        if !v.valid {
-            return OwedAnswer::Refused(11);
-        }
-        let slots = self.slots;
-        OwedAnswer::Owed(slots_owed(slots))
+        let o = self.origin;
+        let opened = self.opened;
+        owed_lent(o, &opened, &self.words)
     }
 }

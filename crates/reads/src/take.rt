@@ -1,9 +1,8 @@
 // Taking a completion.
 use crate::table::Table;
 use crate::table::Taking;
-use crate::table::View;
-use crate::table::put;
-use crate::table::view_of;
+use crate::table::is_valid;
+use crate::table::state_at;
 use bits::word::byte_at;
 use read_answers::TakeAnswer;
 use read_answers::packet_answer;
@@ -12,7 +11,10 @@ use read_rules::continuation::Origin;
 use read_rules::piece::piece_of;
 use read_rules::validity::Read;
 use read_slots::State;
+use read_slots::record::put_state;
 use read_store::store_piece;
+use read_words::tag_set::TagSet;
+use read_words::words::Words;
 use tlp::packet::Packet;
 use tlp_read::ReadAnswer;
 use tlp_read::read;
@@ -20,8 +22,10 @@ ghost use mathlib.Core.Path.{_≡_};
 ghost use Prim.Native.Nat.{_+_, _≤_};
 ghost use lib.ListN.{length};
 ghost use Rattle.read_answers.specs.Takes.{readIn};
+ghost use Rattle.reads.specs.Tables.{tableOf};
 ghost use Rattle.reads.specs.TakeCall.{advanced, storeGiven, takeCall, takeStore};
-ghost use Rattle.reads.specs.Steps.{recordGiven, packetOutcome, takeOutcome, packetLaid, takeLaid};
+ghost use Rattle.reads.specs.Lent.{takingOf};
+ghost use Rattle.reads.specs.Steps.{recordGiven, packetOutcome, takeOutcome, outcomeOf, packetLaid, takeLaid, laidOf, takes};
 
 // A record after n doublewords more.
 fn advance(x: State, n: u32) -> State
@@ -90,19 +94,17 @@ fn packet_outcome(o: Origin, x: State, p: Packet, payload: &[u8], store: &mut [u
     }
 }
 
-// What bytes do to a table that is seen as v.
-fn take_outcome(v: View, bytes: &[u8], store: &mut [u8]) -> Outcome
-    ensures { λ r. ⌜ r ≡ takeOutcome v (now (bytes .entry)) (length (now (store .entry))) ⌝ }
-    ensures { λ _. ⌜ now (store .exit) ≡ takeLaid v (now (bytes .entry)) (now (store .entry)) ⌝ }
+// What bytes do; x is the record of the tag that byte 10 names.
+fn take_outcome(valid: bool, o: Origin, x: State, bytes: &[u8], store: &mut [u8]) -> Outcome
+    ensures { λ r. ⌜ r ≡ takeOutcome valid o x (now (bytes .entry)) (length (now (store .entry))) ⌝ }
+    ensures { λ _. ⌜ now (store .exit) ≡ takeLaid valid o x (now (bytes .entry)) (now (store .entry)) ⌝ }
 {
-    let x = v.state;
-    if !v.valid {
+    if !valid {
         return Outcome {
             answer: TakeAnswer::Refused(11),
             state: x,
         };
     }
-    let o = v.origin;
     let answer = read(o.settings, bytes);
     match answer {
         ReadAnswer::Refused(r) => Outcome {
@@ -113,20 +115,71 @@ fn take_outcome(v: View, bytes: &[u8], store: &mut [u8]) -> Outcome
     }
 }
 
+// What bytes do to the table that the parts make; tag is the one that byte 10 names.
+fn outcome_of(
+    o: Origin,
+    opened: &TagSet,
+    words: &Words,
+    tag: u32,
+    bytes: &[u8],
+    store: &mut [u8],
+) -> Outcome
+    ensures { λ r. ⌜ r ≡ outcomeOf (tableOf o (now (opened .entry)) (now (words .entry))) tag (now (bytes .entry)) (length (now (store .entry))) ⌝ }
+    ensures { λ _. ⌜ now (store .exit) ≡ laidOf (tableOf o (now (opened .entry)) (now (words .entry))) tag (now (bytes .entry)) (now (store .entry)) ⌝ }
+{
+    let valid = is_valid(o, opened, words);
+    take_outcome(valid, o, state_at(o, opened, words, tag), bytes, store)
+}
+
+// Whether a record is stored.
+fn takes(a: TakeAnswer) -> bool
+    ensures { λ r. ⌜ r ≡ takes a ⌝ }
+{
+    match a {
+        TakeAnswer::More => true,
+        TakeAnswer::Done => true,
+        TakeAnswer::Failed(_) => true,
+        TakeAnswer::Poisoned => true,
+        TakeAnswer::Unread(_) => false,
+        TakeAnswer::Refused(_) => false,
+    }
+}
+
+// Takes a packet, over what is lent of a table. Set and words change where it is accepted, and there alone. A completion has its tag in byte 10; what is
+// none changes no record, so it does not matter which one is looked at.
+pub fn take_lent(
+    o: Origin,
+    opened: &mut TagSet,
+    words: &mut Words,
+    bytes: &[u8],
+    store: &mut [u8],
+) -> TakeAnswer
+    ensures { λ a. ⌜ takingOf o (now (opened .exit)) (now (words .exit)) a ≡ takeCall (tableOf o (now (opened .entry)) (now (words .entry))) (now (bytes .entry)) (length (now (store .entry))) ⌝ }
+    ensures { λ _. ⌜ now (store .exit) ≡ takeStore (tableOf o (now (opened .entry)) (now (words .entry))) (now (bytes .entry)) (now (store .entry)) ⌝ }
+{
+    let tag = byte_at(bytes, 10);
+    let done = outcome_of(o, opened, words, tag as u32, bytes, store);
+    let answer = done.answer;
+    if !takes(answer) {
+        return answer;
+    }
+    let x = done.state;
+    put_state(opened, words, tag as usize, x);
+    answer
+}
+
 impl Table {
-    // Takes a packet: its enabled bytes go into the store where it is answered More or Done. A completion has its tag in byte 10; what is none
-    // changes no record, so it does not matter which one is looked at.
-    pub fn take(self, bytes: &[u8], store: &mut [u8]) -> Taking
+    // Takes a packet: its enabled bytes go into the store where it is answered More or Done.
+    pub fn take(mut self, bytes: &[u8], store: &mut [u8]) -> Taking
         ensures { λ r. ⌜ r ≡ takeCall self (now (bytes .entry)) (length (now (store .entry))) ⌝ }
         ensures { λ _. ⌜ now (store .exit) ≡ takeStore self (now (bytes .entry)) (now (store .entry)) ⌝ }
     {
-        let tag = byte_at(bytes, 10) as u32;
-        let v = view_of(self, tag);
-        let done = take_outcome(v, bytes, store);
-        let x = done.state;
-        let answer = done.answer;
+        let o = self.origin;
+        let mut opened = self.opened;
+        let answer = take_lent(o, &mut opened, &mut self.words, bytes, store);
+        self.opened = opened;
         Taking {
-            table: put(self, tag, x),
+            table: self,
             answer: answer,
         }
     }

@@ -9,7 +9,7 @@ use lib.ListN.{length, replicate}
 use lib.Seq.{getD-append-add}
 use Rattle.bits.specs.Count.{clearBelow, clearAbove}
 use Rattle.byte_enables.specs.Enables.{enablesAllowed, off, trail, total, enablesAt, enabled}
-use Rattle.scan.specs.Scans.{allOf, anyOf, sumOf}
+use Rattle.scan.specs.Belows.{allBelow, anyBelow, sumBelow}
 use Rattle.scan.specs.Merges.{merged}
 use Rattle.tlp.specs.Rows.{first}
 use Rattle.tlp.specs.Settings.{settingsListed}
@@ -27,9 +27,11 @@ use Rattle.read_rules.specs.Validity.{validRead, owedOf}
 use Rattle.read_rules.specs.Pieces.{isCompletion, pieceOf}
 use Rattle.read_rules.specs.Continuations.{byteCountAt, lowerAddressAt, cutAllowed, legal, statusBad, differs, clean}
 use Rattle.read_store.specs.Stores.{stored}
-use Rattle.read_slots.specs.Slots.{validSlot, sharesWith, owedInSlot}
+use Rattle.read_words.specs.TagSets.{contains, changed, withBit, withoutBit}
+use Rattle.read_words.specs.Words.{readAt, readOf, putRead, putWords, clearRead}
+use Rattle.read_slots.specs.Records.{recordAt, stateBelow}
 use Rattle.reads.specs.declared.table.Table.{Table}
-use Rattle.reads.specs.Tables.{tagLimit, newTable, stateAt, withState, validTable}
+use Rattle.reads.specs.Tables.{tagLimit, newTable, stateAt, withState, validTable, sharesOpen, owedSum}
 use Rattle.reads.specs.Answers.{openNumber, takeNumber}
 use Rattle.reads.specs.OpenCall.{openCall}
 use Rattle.reads.specs.TakeCall.{packetTaking, packetStore, takeCall, takeStore}
@@ -64,8 +66,8 @@ record Computed : Type 0 where
   left₃ : takeStore t₃ piece₂ (storeOf 14 rest₁) ≡ storeOf 14 rest₂
 
 computed : Computed
-unfolding run answers newTable stateAt withState tagLimit validTable openCall takeCall takeStore packetTaking packetStore packetAnswer outcome withdrawCall owedCall allOf
-    anyOf sumOf merged stored validSlot sharesWith owedInSlot validRead owedOf givenBad requestPacket placeBad sharesByte holdsWindow isCompletion pieceOf statusBad
+unfolding run answers newTable stateAt withState tagLimit validTable openCall takeCall takeStore packetTaking packetStore packetAnswer outcome withdrawCall owedCall allBelow
+    anyBelow sumBelow merged stored sharesOpen owedSum recordAt stateBelow contains changed withBit withoutBit readAt readOf putRead putWords clearRead validRead owedOf givenBad requestPacket placeBad sharesByte holdsWindow isCompletion pieceOf statusBad
     differs clean legal byteCountAt lowerAddressAt cutAllowed lawfulCutting cleanFrom cleanPacket readsAsCompletion lawfulRow rowFrom lengthsOf fieldsFrom first
     settingsListed commonBad ownBad requestBad reservedGiven addressRouteBad routeBad readPacket payloadOf hintsBad routingBad formBad packetAt kindAt routeAt
     completionAt attributesAt plainBad enablesBad pageBad sizeOf bytesCalled digestBytes dataBytes digestAt lengthAt orMost typeAt typeOf accessOf enablesAllowed enabled

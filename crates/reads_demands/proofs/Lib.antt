@@ -5,7 +5,6 @@ pub mod OneTake
 pub mod TakenProof
 pub mod LawfulPieces
 pub mod Limits
-pub mod Belows
 pub mod Steps
 pub mod Accepted
 pub mod Runs
@@ -16,4 +15,5 @@ pub mod Exactly
 pub mod WindowBytes
 pub mod Delivery
 pub mod Whole
+pub mod OneForm
 pub mod Instance

@@ -1,15 +1,14 @@
 -- Tables that calls reach from a new one: what holds of each, and a tag's record after a call.
-use Prim.Native.Nat.{ℕ, suc, _≤_, _<_}
+use Prim.Native.Nat.{ℕ, _+_, _<_}
 use mathlib.Core.Path.{_≡_, refl, sym, ap, _∙_}
 use mathlib.Core.Logic.{_⊎_, inl, inr, _≢_}
 use mathlib.Core.Bool.{Bool, true, false, and-comm, and-eq-true-iff}
 use mathlib.Core.List.{List, [], _∷_, _++_}
 use native.Mathlib.Omega.{arith}
 use lib.Dec.{eqb, ltb}
-use lib.ListN.{length, getD}
-use borrow.Author.Tests.{eqb-true, eqb-false, ne-eqb, ltb-true, ltb-false, lt-ltb}
+use borrow.Author.Tests.{eqb-true, eqb-false, ne-eqb, lt-ltb}
 use Rattle.bits.specs.Choice.{pick}
-use Rattle.scan.specs.Scans.{allOf}
+use Rattle.scan.proofs.BelowLaws.{all-empty}
 use Rattle.tlp.specs.Rows.{first}
 use Rattle.tlp.specs.Settings.{settingsListed}
 use Rattle.tlp.specs.declared.settings.Settings.{Settings}
@@ -20,12 +19,16 @@ use Rattle.read_rules.specs.Windows.{storeLimit, windowEnd, placeRows, sharesBy
 use Rattle.read_rules.specs.Validity.{validRead}
 use Rattle.read_slots.specs.declared.State.{State}
 use Rattle.read_slots.specs.declared.State.the-variants.{Free, Open}
-use Rattle.read_slots.specs.Slots.{freeSlot, validState, validSlot, sharesIn}
+use Rattle.read_slots.specs.Slots.{validState, sharesIn}
+use Rattle.read_slots.specs.Records.{FitsIn}
+use Rattle.read_slots.proofs.RecordLaws.{free-fits, open-fits}
 use Rattle.reads.specs.declared.table.Table.{Table}
-use Rattle.reads.specs.Tables.{capacity, tagLimit, newTable, stateAt, withState, validTable}
+use Rattle.reads.specs.TakeCall.{advanced}
+use Rattle.cuttings.specs.Lawful.{pieceIn}
+use Rattle.reads.specs.Tables.{tagLimit, newTable, stateAt, withState, validTable}
 use Rattle.reads_demands.specs.History.{Call, Event, Change, keeps, opens, adds, closes, eventTag, eventChange, change}
 use Rattle.reads_demands.specs.Demand3.{next, answered, run}
-use Rattle.reads_demands.proofs.Limits.{either, limitOf, slotState, state-below, state-over, slot-new, state-new, size-new, size-with, slot-with-free, state-with}
+use Rattle.reads_demands.proofs.Limits.{either, limitOf, Sized, state-over, state-new, state-fits, size-new, size-with, state-with}
 use Rattle.reads_demands.proofs.Steps.{afterChange, moved, next-moved}
 use Rattle.reads_demands.proofs.Accepted.{FairAdd, Fair, fair, fair-at}
 
@@ -38,8 +41,7 @@ sharesStates (Open r) y = sharesIn (r .request) y
 pub record Sound (o : Origin) (t : Table) : Type 0 where
   pub listed : settingsListed (o .settings) ≡ true
   pub origin : t .origin ≡ o
-  pub size : length (t .slots) ≡ capacity
-  pub over : (u : ℕ) → tagLimit (o .settings) ≤ u → slotState t u ≡ Free
+  pub size : Sized t
   pub states : (u : ℕ) → validState (o .settings) (stateAt t u) ≡ true
   pub disjoint : (u v : ℕ) → u ≢ v → sharesStates (stateAt t u) (stateAt t v) ≡ false
 
@@ -49,7 +51,6 @@ sound-new o k =
       listed = k;
       origin = unfold newTable in refl;
       size = size-new o;
-      over = λ u h. slot-new o u;
       states = λ u. rw (state-new o u);
       disjoint = λ u v h. rw (state-new o u);
     }
@@ -64,14 +65,26 @@ state-kept : (b : Bool) (x : State) → x ≡ afterChange (pick b keeps keeps) x
 state-kept true x = refl
 state-kept false x = refl
 
-state-moved : (t : Table) (tag : ℕ) (c : Change) → length (t .slots) ≡ capacity → Fair t tag c → (u : ℕ)
+-- what an event leaves of a record fits its words
+fits-more : (x : State) (n : ℕ) → FitsIn x → FitsIn (advanced x n)
+fits-more Free n h = h
+fits-more (Open r) n h = open-fits (r .request) (r .taken + n) (h r refl)
+
+pub fits-after : (t : Table) (tag : ℕ) (c : Change) → Fair t tag c → FitsIn (afterChange c (stateAt t tag))
+fits-after t tag keeps f = state-fits t tag
+fits-after t tag (opens q) f = open-fits q 0 (f .fits)
+fits-after t tag (adds b) f = fits-more (stateAt t tag) (pieceIn b .length) (state-fits t tag)
+fits-after t tag closes f = free-fits
+
+state-moved : (t : Table) (tag : ℕ) (c : Change) → Sized t → Fair t tag c → (u : ℕ)
     → stateAt (moved c t tag) u ≡ afterChange (pick (eqb tag u) c keeps) (stateAt t u)
 state-moved t tag keeps l f u = state-kept (eqb tag u) (stateAt t u)
-state-moved t tag (opens q) l f u = state-with t tag _ l (λ h. let k : tag < limitOf t = f .within in absurd (omega arith)) u ∙ at-tag t tag u (opens q) (eqb tag u) refl
-state-moved t tag (adds b) l f u = state-with t tag _ l (λ h. rw (state-over t tag h)) u ∙ at-tag t tag u (adds b) (eqb tag u) refl
-state-moved t tag closes l f u = state-with t tag Free l (λ h. refl) u ∙ at-tag t tag u closes (eqb tag u) refl
+state-moved t tag (opens q) l f u =
+    state-with t tag _ l (fits-after t tag (opens q) f) (λ h. let k : tag < limitOf t = f .within in absurd (omega arith)) u ∙ at-tag t tag u (opens q) (eqb tag u) refl
+state-moved t tag (adds b) l f u = state-with t tag _ l (fits-after t tag (adds b) f) (λ h. rw (state-over t tag h)) u ∙ at-tag t tag u (adds b) (eqb tag u) refl
+state-moved t tag closes l f u = state-with t tag Free l (fits-after t tag closes tt) (λ h. refl) u ∙ at-tag t tag u closes (eqb tag u) refl
 
-state-change : (t : Table) → length (t .slots) ≡ capacity → (c : Call) (u : ℕ) → stateAt (next t c) u ≡ afterChange (change u (answered t c)) (stateAt t u)
+state-change : (t : Table) → Sized t → (c : Call) (u : ℕ) → stateAt (next t c) u ≡ afterChange (change u (answered t c)) (stateAt t u)
 unfolding change
 state-change t l c u = rw (next-moved t c) (state-moved t (eventTag (answered t c)) (eventChange (answered t c)) l (fair t c) u)
 
@@ -92,17 +105,11 @@ moved-origin (opens q) t tag = refl
 moved-origin (adds b) t tag = refl
 moved-origin closes t tag = refl
 
-moved-size : (c : Change) (t : Table) (tag : ℕ) → length (moved c t tag .slots) ≡ length (t .slots)
-moved-size keeps t tag = refl
-moved-size (opens q) t tag = size-with t tag _
-moved-size (adds b) t tag = size-with t tag _
-moved-size closes t tag = size-with t tag _
-
-moved-over : (c : Change) (t : Table) (tag : ℕ) → Fair t tag c → (v : ℕ) → limitOf t ≤ v → slotState t v ≡ Free → slotState (moved c t tag) v ≡ Free
-moved-over keeps t tag f v h e = e
-moved-over (opens q) t tag f v h e = slot-with-free t tag _ v (λ k. let l : tag < limitOf t = f .within in absurd (omega arith)) e
-moved-over (adds b) t tag f v h e = slot-with-free t tag _ v (λ k. rw (state-over t tag (omega arith))) e
-moved-over closes t tag f v h e = slot-with-free t tag Free v (λ k. refl) e
+moved-size : (c : Change) (t : Table) (tag : ℕ) → Sized t → Sized (moved c t tag)
+moved-size keeps t tag l = l
+moved-size (opens q) t tag l = size-with t tag _ l
+moved-size (adds b) t tag l = size-with t tag _ l
+moved-size closes t tag l = size-with t tag _ l
 
 -- the read that a piece adds to
 pub adds-to : (t : Table) (u : ℕ) (b : List ℕ) (f : FairAdd t u b) → stateAt t u ≡ Open (f .read)
@@ -157,8 +164,7 @@ module _ {o : Origin} {t : Table} (g : Sound o t) where
       record {
         listed = g .listed;
         origin = rw (next-moved t c) (moved-origin ch t tag ∙ g .origin);
-        size = rw (next-moved t c) (moved-size ch t tag ∙ g .size);
-        over = λ u h. rw (next-moved t c) (moved-over ch t tag (fair t c) u (rw (g .origin) h) (g .over u h));
+        size = rw (next-moved t c) (moved-size ch t tag (g .size));
         states = λ u. rw (state-next g c u) (valid-after (o .settings) t u (change u (answered t c)) (ap (λ (x : Origin). x .settings) (g .origin)) (fair-at t c u) (g .states u));
         disjoint = λ u v h. rw (state-next g c u, state-next g c v) (disjoint-after t (answered t c) (fair-at t c) u v h (g .disjoint u v h));
       }
@@ -176,22 +182,16 @@ sound-run g (c ∷ cs) = sound-run (sound-next g c) cs
 
 -- ---- a reached table is valid
 
-all-of : {A : Type 0} (f : A → Bool) (d : A) (xs : List A) → ((u : ℕ) → f (getD xs u d) ≡ true) → allOf f xs ≡ true
-unfolding allOf
-all-of f d [] h = refl
-all-of f d (x ∷ xs) h = rw (h 0) (all-of f d xs (λ u. h (suc u)))
-
 module _ {o : Origin} {t : Table} (g : Sound o t) where
   pub limit-of : limitOf t ≡ tagLimit (o .settings)
   limit-of = ap (λ (x : Origin). tagLimit (x .settings)) (g .origin)
 
-  slot-valid : (u : ℕ) → validState (o .settings) (slotState t u) ≡ true
-  slot-valid u = go (either (ltb u (limitOf t)))
-    where
-      go : (ltb u (limitOf t) ≡ true) ⊎ (ltb u (limitOf t) ≡ false) → validState (o .settings) (slotState t u) ≡ true
-      go (inl h) = rw (← (state-below t u (ltb-true u (limitOf t) h))) (g .states u)
-      go (inr h) = rw (g .over u (rw limit-of at (ltb-false u (limitOf t) h)))
-
   pub sound-valid : validTable t ≡ true
-  unfolding validTable validSlot
-  sound-valid = rw (g .origin, g .listed) (all-of (validSlot (o .settings)) freeSlot (t .slots) slot-valid)
+  unfolding validTable
+  sound-valid = rw here (all-empty (λ u. validState (t .origin .settings) (stateAt t u)) (limitOf t) (λ u h. state-valid u))
+    where
+      here : settingsListed (t .origin .settings) ≡ true
+      here = ap (λ (x : Origin). settingsListed (x .settings)) (g .origin) ∙ g .listed
+
+      state-valid : (u : ℕ) → validState (t .origin .settings) (stateAt t u) ≡ true
+      state-valid u = ap (λ (x : Origin). validState (x .settings) (stateAt t u)) (g .origin) ∙ g .states u

@@ -2,4 +2,5 @@ pub mod History
 pub mod Demand1
 pub mod Demand2
 pub mod Demand3
+pub mod OneForm
 pub mod Instance

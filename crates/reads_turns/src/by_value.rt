@@ -19,6 +19,7 @@ fn end_turn(
     a: OpenAnswer,
     bytes: &[u8],
     store: &mut [u8],
+    tag: u32,
 ) -> Turned {
     if takes {
         let b = t.take(bytes, store);
@@ -29,7 +30,7 @@ fn end_turn(
             code: take_turn_code(code, a, x),
         };
     }
-    let b = t.withdraw(0);
+    let b = t.withdraw(tag);
     let u = b.table;
     let x = b.answer;
     Turned {
@@ -47,16 +48,17 @@ pub(crate) fn run_turns(
     room: &[u8],
     store: &mut [u8],
     out: &mut [u8],
+    tag: u32,
 ) -> u32 {
     let mut u = t;
     let mut code: u32 = 0;
     let mut i: u32 = 0;
     while i < turns {
         i += 1;
-        let a = u.open(q, 0, room, out);
+        let a = u.open(q, tag, room, out);
         let v = a.table;
         let x = a.answer;
-        let n = end_turn(takes, v, code, x, bytes, store);
+        let n = end_turn(takes, v, code, x, bytes, store, tag);
         u = n.table;
         code = n.code;
     }

@@ -16,17 +16,18 @@ pub(crate) fn run_turns(
     room: &[u8],
     store: &mut [u8],
     out: &mut [u8],
+    tag: u32,
 ) -> u32 {
     let mut u = t;
     let mut code: u32 = 0;
     let mut i: u32 = 0;
     while i < turns {
-        let a = open(&mut u, q, 0, room, out);
+        let a = open(&mut u, q, tag, room, out);
         if takes {
             let b = take(&mut u, bytes, store);
             code = take_turn_code(code, a, b);
         } else {
-            let b = withdraw(&mut u, 0);
+            let b = withdraw(&mut u, tag);
             code = withdraw_turn_code(code, a, b);
         }
         i += 1;

@@ -1,5 +1,6 @@
 // Turns of calls on a table, by value or in place, for a program to be timed: each line of standard input says which and how many, each line of
-// standard output what came of them. A program that turns one way alone has one caller of each of the table's calls, as a host has.
+// standard output what came of them. A program that turns one way alone has one caller of each of the table's calls, as a host has; one that turns
+// both ways has two, and there the calls stand apart.
 mod by_value;
 mod code;
 mod in_place;
@@ -11,8 +12,11 @@ use crate::packet::put_packet;
 use crate::setup::first_table;
 use crate::setup::read_of;
 use crate::work::Work;
+use crate::work::way_in;
 use crate::work::work_in;
 use reads::table::Table;
+use text::fields::Field;
+use text::fields::line_start;
 use text::words::part;
 ghost use Prim.Native.Nat.{_≤_};
 
@@ -44,19 +48,19 @@ fn turns_code(
     let q = read_of(w.size);
     let packet = part(bytes, 0, 12 + w.size as usize);
     if lent {
-        return in_place::run_turns(t, w.takes, w.turns, q, packet, &room, store, out);
+        return in_place::run_turns(t, w.takes, w.turns, q, packet, &room, store, out, w.tag);
     }
-    by_value::run_turns(t, w.takes, w.turns, q, packet, &room, store, out)
+    by_value::run_turns(t, w.takes, w.turns, q, packet, &room, store, out, w.tag)
 }
 
 fn run_work(lent: bool, w: Work)
-    requires { ⌜ (w .others ≤ 31) × (w .size ≤ 4096) ⌝ }
+    requires { ⌜ (w .others ≤ 31) × (w .size ≤ 4096) × (w .tag ≤ 31) ⌝ }
 {
     let mut bytes = [0u8; 4108];
     let mut store = [0u8; 65536];
     let mut out = [0u8; 16];
-    put_packet(w.size, &mut bytes);
-    let t = first_table(w.others);
+    put_packet(w.size, w.tag, &mut bytes);
+    let t = first_table(w.others, w.tag);
     let code = turns_code(lent, w, t, &bytes, &mut store, &mut out);
     io::write_all(1, b"code=");
     io::print_decimal(1, code as u64);
@@ -65,8 +69,9 @@ fn run_work(lent: bool, w: Work)
     io::write_all(1, b"\n");
 }
 
-fn run_line(lent: bool, line: &[u8]) {
-    let w = work_in(line);
+// What a line says to do, after the field before.
+fn run_rest(lent: bool, line: &[u8], before: Field) {
+    let w = work_in(line, before);
     if w.good {
         run_work(lent, w);
         return;
@@ -74,8 +79,17 @@ fn run_line(lent: bool, line: &[u8]) {
     io::write_all(1, b"bad\n");
 }
 
-// Runs the lines, and answers how many bytes of input there were.
-pub fn run(lent: bool) -> usize
+// Flags and no enum: a flag that a program fixes reaches the turns as a constant, and the way not taken is dropped before the calls are compiled in.
+fn run_line(named: bool, lent: bool, line: &[u8]) {
+    if named {
+        let way = way_in(line);
+        run_rest(way.first, line, way.field);
+        return;
+    }
+    run_rest(lent, line, line_start());
+}
+
+fn run_lines(named: bool, lent: bool) -> usize
     ensures { λ n. ⌜ n ≤ 65536 ⌝ }
 {
     let mut input = io::large_buffer();
@@ -83,8 +97,22 @@ pub fn run(lent: bool) -> usize
     let mut at: usize = 0;
     while at < n {
         let end = bytes::scan::find(&input, at, n, b'\n');
-        run_line(lent, &input[at..end]);
+        run_line(named, lent, &input[at..end]);
         at = end + 1;
     }
     n
+}
+
+// Runs the lines one way, and answers how many bytes of input there were.
+pub fn run(lent: bool) -> usize
+    ensures { λ n. ⌜ n ≤ 65536 ⌝ }
+{
+    run_lines(false, lent)
+}
+
+// The same, each line the way that it names.
+pub fn run_named() -> usize
+    ensures { λ n. ⌜ n ≤ 65536 ⌝ }
+{
+    run_lines(true, false)
 }

@@ -6,8 +6,8 @@ fn payload_byte(k: u32) -> u8 {
     ((k % 256 * 7 + 1) % 256) as u8
 }
 
-// Tag 0, requester ID 0100, completer ID 0200, Lower Address 0; Length and Byte Count are the size's.
-pub(crate) fn put_packet(size: u32, out: &mut [u8; 4108])
+// Requester ID 0100, completer ID 0200, Lower Address 0; Length and Byte Count are the size's.
+pub(crate) fn put_packet(size: u32, tag: u32, out: &mut [u8; 4108])
     requires { ⌜ size ≤ 4096 ⌝ }
 {
     let dw = size / 4;
@@ -18,6 +18,7 @@ pub(crate) fn put_packet(size: u32, out: &mut [u8; 4108])
     out[6] = (size / 256 % 16) as u8;
     out[7] = (size % 256) as u8;
     out[8] = 1;
+    out[10] = (tag % 256) as u8;
     let mut k: u32 = 0;
     while k < size {
         out[12 + k as usize] = payload_byte(k);

@@ -2,8 +2,8 @@
 use byte_enables::Access;
 use read_rules::request::ReadRequest;
 use read_rules::validity::Read;
-use read_slots::Slot;
 use read_slots::State;
+use read_slots::record::put_state;
 use reads::table::Table;
 use tlp::settings::Settings;
 ghost use Prim.Native.Nat.{_≤_};
@@ -32,10 +32,10 @@ pub(crate) fn read_of(size: u32) -> ReadRequest {
     request(65536, size / 4, 0)
 }
 
-// A table with reads of 64 bytes open on tags 1 to others, their windows behind the turns'. The records are put in by hand, so that the table's
-// calls have no caller beside the turns.
-pub(crate) fn first_table(others: u32) -> Table
-    requires { ⌜ others ≤ 31 ⌝ }
+// A table with other reads, of 64 bytes, open on the tags after the turns', round the 32 there are; their windows lie behind the turns'. The records
+// are put in by hand, so that the table's calls have no caller beside the turns.
+pub(crate) fn first_table(others: u32, tag: u32) -> Table
+    requires { ⌜ (others ≤ 31) × (tag ≤ 31) ⌝ }
 {
     let m = Table::make(
         Settings {
@@ -53,7 +53,9 @@ pub(crate) fn first_table(others: u32) -> Table
             request: q,
             taken: 0,
         });
-        t.slots[1 + i as usize] = Slot { state: x };
+        let mut opened = t.opened;
+        put_state(&mut opened, &mut t.words, ((tag + 1 + i) % 32) as usize, x);
+        t.opened = opened;
         i += 1;
     }
     t

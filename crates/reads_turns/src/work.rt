@@ -1,16 +1,18 @@
-// A line of input: `take|withdraw others=N size=N turns=N`.
+// A line of input: `take|withdraw others=N size=N tag=N turns=N`, and where it names the way `value ` or `place ` before.
 use text::fields::Field;
 use text::fields::decimal_after;
 use text::fields::key_after;
 use text::fields::line_start;
 ghost use Prim.Native.Nat.{_≤_, _<_};
 
-// What is to be done: whether a turn takes its read or withdraws it, how many other reads are open, the read's size in bytes, and how many turns.
+// What is to be done: whether a turn takes its read or withdraws it, how many other reads are open, the read's size in bytes, its tag, and how many
+// turns.
 pub(crate) struct Work {
     pub good: bool,
     pub takes: bool,
     pub others: u32,
     pub size: u32,
+    pub tag: u32,
     pub turns: u32,
 }
 
@@ -21,9 +23,9 @@ fn number(line: &[u8], before: Field, key: &[u8], most: u64) -> Field
 }
 
 // The field after one of two words, and whether it was the first.
-struct Choice {
-    first: bool,
-    field: Field,
+pub(crate) struct Choice {
+    pub first: bool,
+    pub field: Field,
 }
 
 fn one_of_two(line: &[u8], before: Field, one: &[u8], two: &[u8]) -> Choice {
@@ -40,6 +42,11 @@ fn one_of_two(line: &[u8], before: Field, one: &[u8], two: &[u8]) -> Choice {
     }
 }
 
+// The way that a line names: whether it is in place.
+pub(crate) fn way_in(line: &[u8]) -> Choice {
+    one_of_two(line, line_start(), b"place ", b"value ")
+}
+
 // A size is a number of doublewords, so that a read has it; the line ends with its last number.
 fn is_whole(line: &[u8], last: Field, size: u64) -> bool {
     if !last.good {
@@ -54,18 +61,20 @@ fn is_whole(line: &[u8], last: Field, size: u64) -> bool {
     size % 4 == 0
 }
 
-pub(crate) fn work_in(line: &[u8]) -> Work
-    ensures { λ w. ⌜ (w .others ≤ 31) × (w .size ≤ 4096) ⌝ }
+pub(crate) fn work_in(line: &[u8], before: Field) -> Work
+    ensures { λ w. ⌜ (w .others ≤ 31) × (w .size ≤ 4096) × (w .tag ≤ 31) ⌝ }
 {
-    let takes = one_of_two(line, line_start(), b"take ", b"withdraw ");
+    let takes = one_of_two(line, before, b"take ", b"withdraw ");
     let others = number(line, takes.field, b"others=", 31);
     let size = number(line, others, b" size=", 4096);
-    let turns = number(line, size, b" turns=", 4294967295);
+    let tag = number(line, size, b" tag=", 31);
+    let turns = number(line, tag, b" turns=", 4294967295);
     Work {
         good: is_whole(line, turns, size.value),
         takes: takes.first,
         others: others.value as u32,
         size: size.value as u32,
+        tag: tag.value as u32,
         turns: turns.value as u32,
     }
 }

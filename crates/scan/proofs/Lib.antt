@@ -1,3 +1,3 @@
-pub mod ScanLaws
 pub mod MergeSteps
 pub mod MergeLaws
+pub mod BelowLaws

@@ -1,2 +1,2 @@
-pub mod Scans
 pub mod Merges
+pub mod Belows

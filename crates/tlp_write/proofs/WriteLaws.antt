@@ -30,8 +30,8 @@ use Rattle.tlp_write.specs.declared.WriteAnswer.the-variants.{Written, R
 use Rattle.tlp_write.specs.declared.words.Words.{Words}
 use Rattle.tlp_write.specs.declared.head.Head.{Head}
 use Rattle.tlp_write.specs.Layout.{routingIn, ownBytes, frontBytes, headerOf, digestOf, bytesOf, sizeOf}
-use Rattle.tlp_write.specs.Write.{laterRows, earlyRows, writeAnswer, writePacket, overFront, writeOut}
-use Rattle.tlp_write.specs.Head.{wordBytes, headFront, headSize, headBytes, headDigest, dataSize, wholeSize, headRows, headAnswer, headOut, IsHead}
+use Rattle.tlp_write.specs.Write.{laterRows, earlyRows, writeAnswer, writePacket, overFront, writeOut, layAnswer, layOut}
+use Rattle.tlp_write.specs.Head.{wordBytes, headFront, headSize, headBytes, headDigest, dataSize, wholeSize, headRows, headAnswer, headOut, IsHead, withoutFault}
 use Rattle.tlp_write.specs.Padded.{padded}
 use Rattle.tlp_write.proofs.PutLaws.{put-front, put-next}
 use Rattle.tlp_write.proofs.LayoutLaws.{routing-low, header-length, header-front, three-or-four}
@@ -236,6 +236,18 @@ module _ (h : Head) (p : Packet) (i : IsHead h p) where
       ∙ ap (λ (x : ℕ). numbersFirst (c .mps) n room d (first (faultRows f a (p .«traffic_class») (p .attributes) 0)) x) whole-same
       ∙ ap (λ (m : ℕ). pick (not (eqb n d)) 3 (pick (ltb (c .mps) d) 5 m))
       (fault-first (plainBad f a (p .«traffic_class») (p .attributes) 0) (enablesBad f a) (pageBad f a) (pick (ltb room (sizeOf p)) 12 0))
+
+  -- without the fault it is laid as it is
+  lay-same : (mps n room : ℕ) → headAnswer mps (withoutFault h) n room ≡ layAnswer mps p n room
+  unfolding headAnswer layAnswer first
+  lay-same mps n room = rw (whole-same, data-same)
+
+  pub lay-answer : (g : Head) (mps n room : ℕ) (x : WriteAnswer) → g ≡ withoutFault h → x ≡ headAnswer mps g n room → x ≡ layAnswer mps p n room
+  lay-answer g mps n room x e q = rw e at q ∙ lay-same mps n room
+
+  pub lay-out : (g : Head) (mps : ℕ) (payload out last : List ℕ) → g ≡ withoutFault h → last ≡ headOut mps g payload out → last ≡ layOut mps p payload out
+  unfolding headOut layOut bytesOf
+  lay-out g mps payload out last e q = rw e at q ∙ rw (lay-same mps (length payload) (length out), bytes-same, digest-same)
 
   -- where no early row holds, what is answered and written is the packet's
   module _ (c : Settings) (n : ℕ) (e : n ≡ first (earlyRows c p)) (z : n ≡ 0) where

@@ -65,6 +65,20 @@ headAnswer mps h n room = writeAnswer (first (headRows mps h n room)) (wholeSize
 unfoldable pub headOut : ℕ → Head → List ℕ → List ℕ → List ℕ
 headOut mps h payload out = outAfter (headAnswer mps h (length payload) (length out)) (headBytes h ++ (payload ++ headDigest h)) out
 
+abbrev pub withoutFault : Head → Head
+withoutFault h = record {
+  «packet_type» = h .«packet_type»;
+  routing = h .routing;
+  fault = 0;
+  words = h .words;
+  «traffic_class» = h .«traffic_class»;
+  attributes = h .attributes;
+  poisoned = h .poisoned;
+  «has_digest» = h .«has_digest»;
+  digest = h .digest;
+  length = h .length;
+}
+
 -- what is known of a packet p
 pub record IsHead (h : Head) (p : Packet) : Type 0 where
   pub type-is : h .«packet_type» ≡ typeOf p

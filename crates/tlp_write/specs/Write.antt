@@ -56,3 +56,18 @@ outAfter (Refused r) xs out = out
 -- the output afterwards: "on success output beyond the packet is unchanged"; after a refusal all of it is
 unfoldable pub writeOut : Settings → Packet → List ℕ → List ℕ → List ℕ
 writeOut c p payload out = outAfter (writePacket c p (length payload) (length out)) (bytesOf p payload) out
+
+-- ---- the same for who knows that no row of the packet's fields holds: of the rows 3, 5 and 12 alone are looked at
+
+abbrev pub layRows : ℕ → Packet → ℕ → ℕ → List Row
+layRows mps p n room =
+    row 3 (not (eqb n (dataBytes (typeOf p) (accessOf p .length))))
+    ∷ row 5 (ltb mps (dataBytes (typeOf p) (accessOf p .length)))
+    ∷ row 12 (ltb room (sizeOf p))
+    ∷ []
+
+unfoldable pub layAnswer : ℕ → Packet → ℕ → ℕ → WriteAnswer
+layAnswer mps p n room = writeAnswer (first (layRows mps p n room)) (sizeOf p)
+
+unfoldable pub layOut : ℕ → Packet → List ℕ → List ℕ → List ℕ
+layOut mps p payload out = outAfter (layAnswer mps p (length payload) (length out)) (bytesOf p payload) out

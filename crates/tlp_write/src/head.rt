@@ -16,7 +16,7 @@ ghost use mathlib.Core.Path.{_≡_};
 ghost use mathlib.Core.List.{[], _∷_};
 ghost use Rattle.bits.specs.Word.{bytes};
 ghost use Rattle.tlp_write.specs.Layout.{routing, routingIn};
-ghost use Rattle.tlp_write.specs.Head.{IsHead, headFront};
+ghost use Rattle.tlp_write.specs.Head.{IsHead, headFront, withoutFault};
 
 pub struct Head {
     pub packet_type: PacketType,
@@ -97,6 +97,25 @@ pub(crate) fn head_of(p: Packet) -> Head
         has_digest: p.has_digest,
         digest: p.digest,
         length: a.length,
+    }
+}
+
+pub(crate) fn without_fault(h: Head) -> Head
+    ensures { λ r. ⌜ r ≡ withoutFault h ⌝ }
+{
+    let t = h.packet_type;
+    let w = h.words;
+    Head {
+        packet_type: t,
+        routing: h.routing,
+        fault: 0,
+        words: w,
+        traffic_class: h.traffic_class,
+        attributes: h.attributes,
+        poisoned: h.poisoned,
+        has_digest: h.has_digest,
+        digest: h.digest,
+        length: h.length,
     }
 }
 

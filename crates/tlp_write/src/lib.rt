@@ -6,6 +6,7 @@ pub mod words;
 use crate::head::Head;
 use crate::head::front_word;
 use crate::head::head_of;
+use crate::head::without_fault;
 use tlp::packet::Packet;
 use tlp::packet::access_of;
 use tlp::packet::type_of;
@@ -29,7 +30,7 @@ ghost use Rattle.tlp.specs.PacketTypes.{headerDw};
 ghost use Rattle.tlp.specs.Sizes.{dataBytes, digestBytes};
 ghost use Rattle.tlp_write.specs.Layout.{sizeOf};
 ghost use Rattle.tlp_write.specs.Head.{headBytes, headDigest, dataSize, wholeSize, headRows, headAnswer, headOut};
-ghost use Rattle.tlp_write.specs.Write.{earlyRows, writePacket, writeOut, overFront};
+ghost use Rattle.tlp_write.specs.Write.{earlyRows, layAnswer, layOut, writePacket, writeOut, overFront};
 
 pub enum WriteAnswer {
     Written(usize),
@@ -133,6 +134,14 @@ pub fn write_head(mps: u32, h: Head, payload: &[u8], out: &mut [u8]) -> WriteAns
     }
     put_packet(h, payload, out);
     WriteAnswer::Written(size)
+}
+
+// The packet over the front of the output, for who knows that no row of its fields holds: of the rows 3, 5 and 12 alone are looked at.
+pub fn lay_packet(mps: u32, p: Packet, payload: &[u8], out: &mut [u8]) -> WriteAnswer
+    ensures { λ r. ⌜ r ≡ layAnswer mps p (length (now (payload .entry))) (length (now (out .entry))) ⌝ }
+    ensures { λ _. ⌜ now (out .exit) ≡ layOut mps p (now (payload .entry)) (now (out .entry)) ⌝ }
+{
+    write_head(mps, without_fault(head_of(p)), payload, out)
 }
 
 // The packet over the front of the output, or the first number that is given, with the output as it was.

@@ -6,10 +6,10 @@ use Rattle.reads_turns.proofs.by_value.run_turns.Statement.{statement}
 use Rattle.reads_turns.proofs.by_value.run_turns.Tie as tie
 
 abbrev Inv-loop : tie.InvT-loop
-Inv-loop takes turns q bytes room store₀ out₀ u₀ code₀ i₀ store out u code i = (i ≤ turns) × ((length store ≡ length store₀) × (length out ≡ length out₀))
+Inv-loop takes turns q bytes room store₀ out₀ tag u₀ code₀ i₀ store out u code i = (i ≤ turns) × ((length store ≡ length store₀) × (length out ≡ length out₀))
 
 abbrev μ-loop : tie.MeasureT-loop
-μ-loop takes turns q bytes room store₀ out₀ u₀ code₀ i₀ store out u code i = turns - i
+μ-loop takes turns q bytes room store₀ out₀ tag u₀ code₀ i₀ store out u code i = turns - i
 
 loop-holds : tie.Need-loop-holds Inv-loop μ-loop
 loop-holds c = search needs

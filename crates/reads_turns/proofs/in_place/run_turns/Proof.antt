@@ -1,4 +1,4 @@
--- `run_turns` meets its contract: it is safe, and it ends. The walk keeps the table in the local `_9`, and the bytes of `store` and `out`, in memory over the turns. It lends them for each call (`Turns`), and has them again when the call has returned.
+-- `run_turns` meets its contract: it is safe, and it ends. The walk keeps the table in the local `_10`, and the bytes of `store` and `out`, in memory over the turns. It lends them for each call (`Turns`), and has them again when the call has returned.
 -- Of the callees it uses only what they own and that they return.
 -- Assumes nothing.
 use mathlib.Core.Path.{_≡_, refl, _∙_, ap, sym, subst}
@@ -94,7 +94,7 @@ stayed = (
       stay-none (λ _. u32) yes,
       (
         stay-none (λ _. Q.the-row) yes,
-        (stay-none-slice (0 ∷ []) tt (plain (λ _. u8)) yes, (stay-none-slice (1 ∷ []) tt (plain (λ _. u8)) yes, (stay-slice (2 ∷ []) tt (plain (λ _. u8)), (stay-slice (3 ∷ []) tt (plain (λ _. u8)), tt)))),
+        (stay-none-slice (0 ∷ []) tt (plain (λ _. u8)) yes, (stay-none-slice (1 ∷ []) tt (plain (λ _. u8)) yes, (stay-slice (2 ∷ []) tt (plain (λ _. u8)), (stay-slice (3 ∷ []) tt (plain (λ _. u8)), (stay-none (λ _. u32) yes, tt))))),
       ),
     ),
   ),
@@ -128,30 +128,30 @@ withdrawTy = layout (Enums.shape D.the-type)
 
 -- ---- a turn's code, and what follows the loop
 abbrev opening : Body → Body
-opening rest = seq (assign (place 16 []) (addrOf (place 9 []))) (seq (assign (place 17 []) (addrOf (place 8 (field 0 ∷ deref (tyInt w8) ∷ [])))) (seq (assign (place 18 []) (aggregate (copy (place 17 []) ∷ copy (place 8 (field 1 ∷ [])) ∷ [])))
-    (seq (call #in-place·open (copy (place 16 []) ∷ copy (place 4 []) ∷ int w32 0 ∷ copy (place 6 []) ∷ copy (place 18 []) ∷ []) (place 12 [])) rest)))
+opening rest = seq (assign (place 17 []) (addrOf (place 10 []))) (seq (assign (place 18 []) (addrOf (place 8 (field 0 ∷ deref (tyInt w8) ∷ [])))) (seq (assign (place 19 []) (aggregate (copy (place 18 []) ∷ copy (place 8 (field 1 ∷ [])) ∷ [])))
+    (seq (call #in-place·open (copy (place 17 []) ∷ copy (place 4 []) ∷ copy (place 9 []) ∷ copy (place 6 []) ∷ copy (place 19 []) ∷ []) (place 13 [])) rest)))
 
 abbrev taking : Body
-taking = seq (assign (place 19 []) (addrOf (place 9 []))) (seq (assign (place 20 []) (addrOf (place 7 (field 0 ∷ deref (tyInt w8) ∷ [])))) (seq (assign (place 21 []) (aggregate (copy (place 20 []) ∷ copy (place 7 (field 1 ∷ [])) ∷ [])))
-    (seq (call #in-place·take (copy (place 19 []) ∷ copy (place 5 []) ∷ copy (place 21 []) ∷ []) (place 13 [])) (call #take-turn-code (copy (place 10 []) ∷ copy (place 12 []) ∷ copy (place 13 []) ∷ []) (place 10 [])))))
+taking = seq (assign (place 20 []) (addrOf (place 10 []))) (seq (assign (place 21 []) (addrOf (place 7 (field 0 ∷ deref (tyInt w8) ∷ [])))) (seq (assign (place 22 []) (aggregate (copy (place 21 []) ∷ copy (place 7 (field 1 ∷ [])) ∷ [])))
+    (seq (call #in-place·take (copy (place 20 []) ∷ copy (place 5 []) ∷ copy (place 22 []) ∷ []) (place 14 [])) (call #take-turn-code (copy (place 11 []) ∷ copy (place 13 []) ∷ copy (place 14 []) ∷ []) (place 11 [])))))
 
 abbrev withdrawing : Body
-withdrawing = seq (assign (place 22 []) (addrOf (place 9 []))) (seq (call #in-place·withdraw (copy (place 22 []) ∷ int w32 0 ∷ []) (place 14 [])) (call #withdraw-turn-code (copy (place 10 []) ∷ copy (place 12 []) ∷ copy (place 14 []) ∷ []) (place 10 [])))
+withdrawing = seq (assign (place 23 []) (addrOf (place 10 []))) (seq (call #in-place·withdraw (copy (place 23 []) ∷ copy (place 9 []) ∷ []) (place 15 [])) (call #withdraw-turn-code (copy (place 11 []) ∷ copy (place 13 []) ∷ copy (place 15 []) ∷ []) (place 11 [])))
 
 abbrev more : Body
-more = assign (place 11 []) (op2 (add unsigned) (copy (place 11 [])) (int w32 1))
+more = assign (place 12 []) (op2 (add unsigned) (copy (place 12 [])) (int w32 1))
 
 abbrev rest-of-turn : Body
-rest-of-turn = opening (seq (assign (place 15 []) (rvOpd (copy (place 2 [])))) (seq (cond (copy (place 15 [])) taking withdrawing) more))
+rest-of-turn = opening (seq (assign (place 16 []) (rvOpd (copy (place 2 [])))) (seq (cond (copy (place 16 [])) taking withdrawing) more))
 
 abbrev whole-turn : Body
-whole-turn = seq (assign (place 15 []) (op2 (lt unsigned) (copy (place 11 [])) (copy (place 3 [])))) (seq (cond (copy (place 15 [])) skip (exit 1)) rest-of-turn)
+whole-turn = seq (assign (place 16 []) (op2 (lt unsigned) (copy (place 12 [])) (copy (place 3 [])))) (seq (cond (copy (place 16 [])) skip (exit 1)) rest-of-turn)
 
 abbrev ending : Body
-ending = seq (assign (place 0 []) (rvOpd (copy (place 10 [])))) return
+ending = seq (assign (place 0 []) (rvOpd (copy (place 11 [])))) return
 
 abbrev all-code : Body
-all-code = seq (assign (place 9 []) (rvOpd (copy (place 1 [])))) (seq (assign (place 10 []) (rvOpd (int w32 0))) (seq (assign (place 11 []) (rvOpd (int w32 0))) (seq (block (loop whole-turn)) ending)))
+all-code = seq (assign (place 10 []) (rvOpd (copy (place 1 [])))) (seq (assign (place 11 []) (rvOpd (int w32 0))) (seq (assign (place 12 []) (rvOpd (int w32 0))) (seq (block (loop whole-turn)) ending)))
 
 -- what is so before a turn: how many turns were made of n, the code, the table, and the bytes of the store, a of them, and of the output, b of them
 record State (n a b : ℕ) : Type 0 where
@@ -190,9 +190,9 @@ module _ {M : Type 1} (𝓤 : URA M) (H : Heap 𝓤) (A : Atoms 𝓤) (at-mem : 
     withdraw-coding : Triple 𝓤 (C #withdraw-turn-code) WithdrawCode
 
   module _ (W : Given 𝓤 H A) (κ₀ κ₁ κ₂ κ₃ : Lft) (q₀ q₁ q₂ q₃ : Share) (h₀ : Table) (h₀-is : IsTable h₀) (taken : Bool) (n : ℕ) (n-fits : n < 2 ^ 32) (p : ReadRequest) (p-is : Is Q.the-row p (asked p ∷ []))
-      (bytes room store out : RefT (List ℕ)) (fit₅ : Room u8 (length (bytes .now))) (fit₆ : Room u8 (length (room .now))) (fit₇ : Room u8 (length (store .now))) (fit₈ : Room u8 (length (out .now))) where
-    abbrev x : Table × (Bool × (ℕ × (ReadRequest × (RefT (List ℕ) × (RefT (List ℕ) × (RefT (List ℕ) × (RefT (List ℕ) × Unit {0})))))))
-    x = (h₀, (taken, (n, (p, (bytes, (room, (store, (out, tt))))))))
+      (bytes room store out : RefT (List ℕ)) (fit₅ : Room u8 (length (bytes .now))) (fit₆ : Room u8 (length (room .now))) (fit₇ : Room u8 (length (store .now))) (fit₈ : Room u8 (length (out .now))) (tag : ℕ) (tag-fits : tag < 2 ^ 32) where
+    abbrev x : Table × (Bool × (ℕ × (ReadRequest × (RefT (List ℕ) × (RefT (List ℕ) × (RefT (List ℕ) × (RefT (List ℕ) × (ℕ × Unit {0}))))))))
+    x = (h₀, (taken, (n, (p, (bytes, (room, (store, (out, (tag, tt)))))))))
 
     -- the slices' machine values
     abbrev s₅ : Val
@@ -207,8 +207,8 @@ module _ {M : Type 1} (𝓤 : URA M) (H : Heap 𝓤) (A : Atoms 𝓤) (at-mem : 
     abbrev s₈ : Val
     s₈ = sliceVal (out .ptr) (length (out .now))
 
-    abbrev at : List Val × (List Val × (List Val × (List Val × (List Val × (List Val × (List Val × (List Val × Unit {0})))))))
-    at = (mach h₀ ∷ [], (vbool taken ∷ [], (vint w32 n ∷ [], (asked p ∷ [], (s₅ ∷ [], (s₆ ∷ [], (s₇ ∷ [], (s₈ ∷ [], tt))))))))
+    abbrev at : List Val × (List Val × (List Val × (List Val × (List Val × (List Val × (List Val × (List Val × (List Val × Unit {0}))))))))
+    at = (mach h₀ ∷ [], (vbool taken ∷ [], (vint w32 n ∷ [], (asked p ∷ [], (s₅ ∷ [], (s₆ ∷ [], (s₇ ∷ [], (s₈ ∷ [], (vint w32 tag ∷ [], tt)))))))))
 
     abbrev bound : walkOf 𝓤 H A turning.ended stayed (turning.clauses 𝓤 H A at-mem run) .Ghost
     bound = (((κ₀, (κ₁, (κ₂, (κ₃, tt)))), (q₀, (q₁, (q₂, (q₃, tt)))), tt, x, at), tt)
@@ -226,10 +226,10 @@ module _ {M : Type 1} (𝓤 : URA M) (H : Heap 𝓤) (A : Atoms 𝓤) (at-mem : 
 
     exits : (s : Turn) → ent 𝓤 (⋆ 𝓤 H A (Had s)) (Finally (vint w32 (s .code)))
     exits s =
-        qed W (Had s) ∵ suffices ! _ (ends-at 𝓤 H A turning.ended stayed (turning.clauses 𝓤 H A at-mem run) W bound (vint w32 (s .code)) (s .code) (tt, (tt, (tt, (tt, (tt, (tt, (s .kept, (s .sent, tt)))))))) (tt, (tt, (tt, (tt, (tt, (tt, (s .kept-all, (s .sent-all, tt))))))))) $
+        qed W (Had s) ∵ suffices ! _ (ends-at 𝓤 H A turning.ended stayed (turning.clauses 𝓤 H A at-mem run) W bound (vint w32 (s .code)) (s .code) (tt, (tt, (tt, (tt, (tt, (tt, (s .kept, (s .sent, (tt, tt))))))))) (tt, (tt, (tt, (tt, (tt, (tt, (s .kept-all, (s .sent-all, (tt, tt)))))))))) $
         unsaid ! $ owned ! u32 (Is u32) (uint-makes 𝓤 H A W w32) (s .code) _ (refl, s .code-fits) $ nothing ! $ move ! (3 ∷ 0 ∷ []) $ join ! $ move ! (4 ∷ 0 ∷ []) $ join ! $ move ! (5 ∷ 0 ∷ []) $ join ! $ move ! (6 ∷ 0 ∷ []) $ join ! $
         -- [the tokens; the result; the output; the store; …]
-        nothing ! $ move ! (3 ∷ 0 ∷ []) $ fjoin ! $ move ! (3 ∷ 0 ∷ []) $ fjoin ! $ move ! (3 ∷ 0 ∷ []) $ fjoin ! $ move ! (3 ∷ 0 ∷ []) $ fjoin ! $
+        nothing ! $ owned ! u32 (Is u32) (uint-makes 𝓤 H A W w32) tag _ (refl, tag-fits) $ fjoin ! $ move ! (3 ∷ 0 ∷ []) $ fjoin ! $ move ! (3 ∷ 0 ∷ []) $ fjoin ! $ move ! (3 ∷ 0 ∷ []) $ fjoin ! $ move ! (3 ∷ 0 ∷ []) $ fjoin ! $
         owned ! Q.the-row (Is Q.the-row) (LL.makes Q.the-type Q′.the-plain 𝓤 H A) p _ p-is $ fjoin ! $ owned ! u32 (Is u32) (uint-makes 𝓤 H A W w32) n _ (refl, n-fits) $ fjoin ! $
         owned ! bool (Is bool) (bool-makes 𝓤 H A W) taken _ refl $ fjoin ! $ owned ! T.the-row (Is T.the-row) (LL.makes T.the-type T′.the-plain 𝓤 H A) h₀ _ h₀-is $ fjoin ! $ move ! (1 ∷ 0 ∷ []) $ done !
 
@@ -242,7 +242,7 @@ module _ {M : Type 1} (𝓤 : URA M) (H : Heap 𝓤) (A : Atoms 𝓤) (at-mem : 
     Nearer-wf : WellFounded Nearer
     Nearer-wf = InvImage·wf (λ (s : Turn). n - s .made) (Nat·lt-wfRel .wf)
 
-    module _ (𝓣 : Tables 𝓤 H) (known : Known (𝓣 .C)) (l₀ l₁ l₂ l₃ l₄ l₅ l₆ l₇ l₈ l₉ l₁₀ l₁₁ l₁₂ l₁₃ l₁₄ l₁₅ l₁₆ l₁₇ l₁₈ l₁₉ l₂₀ l₂₁ l₂₂ : ℕ) where
+    module _ (𝓣 : Tables 𝓤 H) (known : Known (𝓣 .C)) (l₀ l₁ l₂ l₃ l₄ l₅ l₆ l₇ l₈ l₉ l₁₀ l₁₁ l₁₂ l₁₃ l₁₄ l₁₅ l₁₆ l₁₇ l₁₈ l₁₉ l₂₀ l₂₁ l₂₂ l₂₃ : ℕ) where
       abbrev C : Calls 𝓤 H
       C = 𝓣 .C
 
@@ -253,7 +253,7 @@ module _ {M : Type 1} (𝓤 : URA M) (H : Heap 𝓤) (A : Atoms 𝓤) (at-mem : 
       fm = fmOf 𝓤 H (W .laws) 𝓣
 
       abbrev En : Env 𝓤 H
-      En = (word, l₀) ∷ (T′.mir, l₁) ∷ (tyBool, l₂) ∷ (word, l₃) ∷ (Q′.mir, l₄) ∷ (slot (named 0) imm, l₅) ∷ (slot (named 1) imm, l₆) ∷ (slot (named 2) mut, l₇) ∷ (slot (named 3) mut, l₈) ∷ (T′.mir, l₉) ∷ (word, l₁₀) ∷ (word, l₁₁) ∷ (openTy, l₁₂) ∷ (takeTy, l₁₃) ∷ (withdrawTy, l₁₄) ∷ (tyBool, l₁₅) ∷ (ref, l₁₆) ∷ (byteRef, l₁₇) ∷ (slot erased mut, l₁₈) ∷ (ref, l₁₉) ∷ (byteRef, l₂₀) ∷ (slot erased mut, l₂₁) ∷ (ref, l₂₂) ∷ []
+      En = (word, l₀) ∷ (T′.mir, l₁) ∷ (tyBool, l₂) ∷ (word, l₃) ∷ (Q′.mir, l₄) ∷ (slot (named 0) imm, l₅) ∷ (slot (named 1) imm, l₆) ∷ (slot (named 2) mut, l₇) ∷ (slot (named 3) mut, l₈) ∷ (word, l₉) ∷ (T′.mir, l₁₀) ∷ (word, l₁₁) ∷ (word, l₁₂) ∷ (openTy, l₁₃) ∷ (takeTy, l₁₄) ∷ (withdrawTy, l₁₅) ∷ (tyBool, l₁₆) ∷ (ref, l₁₇) ∷ (byteRef, l₁₈) ∷ (slot erased mut, l₁₉) ∷ (ref, l₂₀) ∷ (byteRef, l₂₁) ∷ (slot erased mut, l₂₂) ∷ (ref, l₂₃) ∷ []
 
       abbrev has : Ty → ℕ → Val → Item 𝓤
       has τ l v = ‵ (fat fullShare τ l 0 v)
@@ -264,86 +264,86 @@ module _ {M : Type 1} (𝓤 : URA M) (H : Heap 𝓤) (A : Atoms 𝓤) (at-mem : 
       abbrev dies : Ty → ℕ → Item 𝓤
       dies τ l = ‵ (fdies τ l)
 
-      -- ---- `open`: what it uses, with a for `_12`, its answer's local
+      -- ---- `open`: what it uses, with a for `_13`, its answer's local
       abbrev Opening : Table → List ℕ → Item 𝓤 → List (Item 𝓤) → List (Item 𝓤)
-      Opening h zs a Γ = Lies 𝓤 l₉ h ∷ Row 𝓤 (out .ptr) zs ∷ ‵ (ShrSlice (named 1) κ₁ u8 .own room (s₆ ∷ [])) ∷ ‵ (flft κ₁ q₁) ∷ has Q′.mir l₄ (asked p) ∷ has (slot (named 1) imm) l₆ s₆ ∷ has (slot (named 3) mut) l₈ s₈
-          ∷ free ref l₁₆ ∷ free byteRef l₁₇ ∷ free (slot erased mut) l₁₈ ∷ a ∷ Γ
+      Opening h zs a Γ = Lies 𝓤 l₁₀ h ∷ Row 𝓤 (out .ptr) zs ∷ ‵ (ShrSlice (named 1) κ₁ u8 .own room (s₆ ∷ [])) ∷ ‵ (flft κ₁ q₁) ∷ has Q′.mir l₄ (asked p) ∷ has (slot (named 1) imm) l₆ s₆ ∷ has (slot (named 3) mut) l₈ s₈
+          ∷ free ref l₁₇ ∷ free byteRef l₁₈ ∷ free (slot erased mut) l₁₉ ∷ a ∷ has word l₉ (vint w32 tag) ∷ Γ
 
       abbrev to-open : ℕ → ℕ → GName → GName → Table → List ℕ → Open .Ghost
-      to-open α β γ δ h zs = (((α ∷ [], (κ₁, (β ∷ [], tt))), (fullShare, (q₁, (fullShare, tt))), tt, (at-table l₉ γ h, (p, (0, (room, (at-bytes (out .ptr) δ zs, tt))))), (vptr l₉ 0 ∷ [], (asked p ∷ [], (vint w32 0 ∷ [], (s₆ ∷ [], (s₈ ∷ [], tt)))))), tt)
+      to-open α β γ δ h zs = (((α ∷ [], (κ₁, (β ∷ [], tt))), (fullShare, (q₁, (fullShare, tt))), tt, (at-table l₁₀ γ h, (p, (tag, (room, (at-bytes (out .ptr) δ zs, tt))))), (vptr l₁₀ 0 ∷ [], (asked p ∷ [], (vint w32 tag ∷ [], (s₆ ∷ [], (s₈ ∷ [], tt)))))), tt)
 
       opened-one : {Γ : List (Item 𝓤)} {rest : Body} {q : Post 𝓤 H} (h : Table) (zs : List ℕ) → length zs ≡ length (out .now)
-          → ((h′ : Table) (zs′ : List ℕ) → length zs′ ≡ length (out .now) → (r : OpenAnswer) (v : Val) → Is O.the-row r (v ∷ []) → Sq W (Opening h′ zs′ (has openTy l₁₂ v) Γ) (runs C Λ En rest q))
-          → Sq W (Opening h zs (free openTy l₁₂) Γ) (runs C Λ En (opening rest) q)
+          → ((h′ : Table) (zs′ : List ℕ) → length zs′ ≡ length (out .now) → (r : OpenAnswer) (v : Val) → Is O.the-row r (v ∷ []) → Sq W (Opening h′ zs′ (has openTy l₁₃ v) Γ) (runs C Λ En rest q))
+          → Sq W (Opening h zs (free openTy l₁₃) Γ) (runs C Λ En (opening rest) q)
       opened-one h zs e go =
           assigns ! (addr ! (from ! (stop !))) (from ! (stop !)) (init ! 7 refl (tt, tt)) $ move ! (6 ∷ 8 ∷ 9 ∷ []) $ lent-again ! (fit₈ .0) refl refl refl $
-          move ! (3 ∷ 4 ∷ 5 ∷ 6 ∷ []) $ lends-both ! tt l₉ (out .ptr) h zs room s₆ (subst (Room u8) (sym e) fit₈) e (λ α β γ δ.
-          owned ! u32 (Is u32) (uint-makes 𝓤 H A W w32) 0 _ (refl, lit< tt) $ fjoin ! $ owned ! Q.the-row (Is Q.the-row) (LL.makes Q.the-type Q′.the-plain 𝓤 H A) p _ p-is $ fjoin ! $ move ! (1 ∷ 0 ∷ []) $ fjoin ! $ move ! (1 ∷ 0 ∷ []) $ join ! $
-          -- [what `open` asks; the room; the lender's parts (2, 3); _8; _17; _18; _4; _6; _16; room for _12 (10); …]
-          called ! fm opens.ended (opens.clauses 𝓤 H A at-mem run) (known .opening) (to-open α β γ δ h zs) (id⊢ 𝓤 _) (id⊢ 𝓤 _) (and-then ! (load ! (from ! (stop !)) (look ! 9 refl)) (and-then ! (load ! (from ! (stop !)) (look ! 7 refl)) (and-then ! (lit ! tt) (and-then ! (load ! (from ! (stop !)) (look ! 8 refl)) (and-then ! (load ! (from ! (stop !)) (look ! 6 refl)) (no-more !)))))) (λ v r ws.
+          move ! (3 ∷ 4 ∷ 5 ∷ 6 ∷ []) $ lends-both ! tt l₁₀ (out .ptr) h zs room s₆ (subst (Room u8) (sym e) fit₈) e (λ α β γ δ.
+          owned ! u32 (Is u32) (uint-makes 𝓤 H A W w32) tag _ (refl, tag-fits) $ fjoin ! $ owned ! Q.the-row (Is Q.the-row) (LL.makes Q.the-type Q′.the-plain 𝓤 H A) p _ p-is $ fjoin ! $ move ! (1 ∷ 0 ∷ []) $ fjoin ! $ move ! (1 ∷ 0 ∷ []) $ join ! $
+          -- [what `open` asks; the room; the lender's parts (2, 3); _8; _18; _19; _4; _6; _17; room for _13 (10); _9; …]
+          called ! fm opens.ended (opens.clauses 𝓤 H A at-mem run) (known .opening) (to-open α β γ δ h zs) (id⊢ 𝓤 _) (id⊢ 𝓤 _) (and-then ! (load ! (from ! (stop !)) (look ! 9 refl)) (and-then ! (load ! (from ! (stop !)) (look ! 7 refl)) (and-then ! (load ! (from ! (stop !)) (look ! 11 refl)) (and-then ! (load ! (from ! (stop !)) (look ! 8 refl)) (and-then ! (load ! (from ! (stop !)) (look ! 6 refl)) (no-more !)))))) (λ v r ws.
           drop ! $ fsplit ! $ move ! (1 ∷ []) $ fsplit ! $ drop ! $ fsplit ! $ drop ! $ fsplit ! $ drop ! $ fsplit ! $ move ! (1 ∷ []) $ drop ! $ fsplit ! $ move ! (1 ∷ []) $ feqL ! (λ f.
           -- [the output's last list; the table's last value; the answer; the tokens; the room; …]
-          move ! (2 ∷ []) $ facts ! O.the-row (Is O.the-row) (shows 𝓤 H A O.the-row) r (v ∷ []) (λ is. move ! (2 ∷ []) $ use1 W (Tokens 𝓤 κ₁ q₁ α β) (id⊢ 𝓤 _) $ move ! (0 ∷ 2 ∷ 1 ∷ []) $ has-both ! tt l₉ (out .ptr) (ws .0) (ws .1 .1 .1 .1 .0) $
+          move ! (2 ∷ []) $ facts ! O.the-row (Is O.the-row) (shows 𝓤 H A O.the-row) r (v ∷ []) (λ is. move ! (2 ∷ []) $ use1 W (Tokens 𝓤 κ₁ q₁ α β) (id⊢ 𝓤 _) $ move ! (0 ∷ 2 ∷ 1 ∷ []) $ has-both ! tt l₁₀ (out .ptr) (ws .0) (ws .1 .1 .1 .1 .0) $
           land ! (from ! (stop !)) (init ! 10 refl (O′.the-field-laws .lawful 𝓤 H A W .typed (O.the-type .to r) _ is .0)) $ forget ! 5 refl $ forget ! 6 refl $ forget ! 9 refl $
           move ! (0 ∷ 1 ∷ 2 ∷ 3 ∷ 7 ∷ 8 ∷ 4 ∷ 9 ∷ 5 ∷ 6 ∷ []) $ go (ws .0) (ws .1 .1 .1 .1 .0) (f ∙ e) r v is))))
 
-      -- ---- `take`, and the code of the turn: what they use, with a for `_12`
+      -- ---- `take`, and the code of the turn: what they use, with a for `_13`
       abbrev Taking : Table → List ℕ → ℕ → Item 𝓤 → List (Item 𝓤) → List (Item 𝓤)
-      Taking h ys c a Γ = Lies 𝓤 l₉ h ∷ Row 𝓤 (store .ptr) ys ∷ ‵ (ShrSlice (named 1) κ₀ u8 .own bytes (s₅ ∷ [])) ∷ ‵ (flft κ₀ q₀) ∷ has (slot (named 0) imm) l₅ s₅ ∷ has (slot (named 2) mut) l₇ s₇
-          ∷ free ref l₁₉ ∷ free byteRef l₂₀ ∷ free (slot erased mut) l₂₁ ∷ free takeTy l₁₃ ∷ has word l₁₀ (vint w32 c) ∷ a ∷ Γ
+      Taking h ys c a Γ = Lies 𝓤 l₁₀ h ∷ Row 𝓤 (store .ptr) ys ∷ ‵ (ShrSlice (named 1) κ₀ u8 .own bytes (s₅ ∷ [])) ∷ ‵ (flft κ₀ q₀) ∷ has (slot (named 0) imm) l₅ s₅ ∷ has (slot (named 2) mut) l₇ s₇
+          ∷ free ref l₂₀ ∷ free byteRef l₂₁ ∷ free (slot erased mut) l₂₂ ∷ free takeTy l₁₄ ∷ has word l₁₁ (vint w32 c) ∷ a ∷ Γ
 
       abbrev to-take : ℕ → ℕ → GName → GName → Table → List ℕ → Take .Ghost
-      to-take α β γ δ h ys = (((α ∷ [], (κ₀, (β ∷ [], tt))), (fullShare, (q₀, (fullShare, tt))), tt, (at-table l₉ γ h, (bytes, (at-bytes (store .ptr) δ ys, tt))), (vptr l₉ 0 ∷ [], (s₅ ∷ [], (s₇ ∷ [], tt)))), tt)
+      to-take α β γ δ h ys = (((α ∷ [], (κ₀, (β ∷ [], tt))), (fullShare, (q₀, (fullShare, tt))), tt, (at-table l₁₀ γ h, (bytes, (at-bytes (store .ptr) δ ys, tt))), (vptr l₁₀ 0 ∷ [], (s₅ ∷ [], (s₇ ∷ [], tt)))), tt)
 
       taken-one : {Γ : List (Item 𝓤)} {q : Post 𝓤 H} (h : Table) (ys : List ℕ) → length ys ≡ length (store .now) → (c : ℕ) → c < 2 ^ 32 → (r : OpenAnswer) (v : Val) → Is O.the-row r (v ∷ [])
-          → ((h′ : Table) (ys′ : List ℕ) → length ys′ ≡ length (store .now) → (c′ : ℕ) → c′ < 2 ^ 32 → Sq W (Taking h′ ys′ c′ (free openTy l₁₂) Γ) (prop (post 𝓤 H q next)))
-          → Sq W (Taking h ys c (has openTy l₁₂ v) Γ) (runs C Λ En taking q)
+          → ((h′ : Table) (ys′ : List ℕ) → length ys′ ≡ length (store .now) → (c′ : ℕ) → c′ < 2 ^ 32 → Sq W (Taking h′ ys′ c′ (free openTy l₁₃) Γ) (prop (post 𝓤 H q next)))
+          → Sq W (Taking h ys c (has openTy l₁₃ v) Γ) (runs C Λ En taking q)
       taken-one h ys e c c-fits r v is go =
           assigns ! (addr ! (from ! (stop !))) (from ! (stop !)) (init ! 6 refl (tt, tt)) $ move ! (5 ∷ 7 ∷ 8 ∷ []) $ lent-again ! (fit₇ .0) refl refl refl $
-          move ! (3 ∷ 4 ∷ 5 ∷ 6 ∷ []) $ lends-both ! tt l₉ (store .ptr) h ys bytes s₅ (subst (Room u8) (sym e) fit₇) e (λ α β γ δ. move ! (1 ∷ 0 ∷ []) $ fjoin ! $ move ! (1 ∷ 0 ∷ []) $ join ! $
-          -- [what `take` asks; the bytes; the lender's parts (2, 3); _7; _20; _21; _5; _19; room for _13; _10; _12; …]
+          move ! (3 ∷ 4 ∷ 5 ∷ 6 ∷ []) $ lends-both ! tt l₁₀ (store .ptr) h ys bytes s₅ (subst (Room u8) (sym e) fit₇) e (λ α β γ δ. move ! (1 ∷ 0 ∷ []) $ fjoin ! $ move ! (1 ∷ 0 ∷ []) $ join ! $
+          -- [what `take` asks; the bytes; the lender's parts (2, 3); _7; _21; _22; _5; _20; room for _14; _11; _13; …]
           called ! fm takes.ended (takes.clauses 𝓤 H A at-mem run) (known .taking) (to-take α β γ δ h ys) (id⊢ 𝓤 _) (id⊢ 𝓤 _) (and-then ! (load ! (from ! (stop !)) (look ! 8 refl)) (and-then ! (load ! (from ! (stop !)) (look ! 7 refl)) (and-then ! (load ! (from ! (stop !)) (look ! 6 refl)) (no-more !)))) (λ v₁ r₁ ws.
           drop ! $ fsplit ! $ move ! (1 ∷ []) $ fsplit ! $ drop ! $ fsplit ! $ move ! (1 ∷ []) $ drop ! $ fsplit ! $ move ! (1 ∷ []) $ feqL ! (λ f.
           -- [the store's last list; the table's last value; the answer; the tokens; the bytes; …]
-          move ! (2 ∷ []) $ facts ! K.the-row (Is K.the-row) (shows 𝓤 H A K.the-row) r₁ (v₁ ∷ []) (λ is₁. move ! (2 ∷ []) $ use1 W (Tokens 𝓤 κ₀ q₀ α β) (id⊢ 𝓤 _) $ move ! (0 ∷ 2 ∷ 1 ∷ []) $ has-both ! tt l₉ (store .ptr) (ws .0) (ws .1 .1 .0) $
+          move ! (2 ∷ []) $ facts ! K.the-row (Is K.the-row) (shows 𝓤 H A K.the-row) r₁ (v₁ ∷ []) (λ is₁. move ! (2 ∷ []) $ use1 W (Tokens 𝓤 κ₀ q₀ α β) (id⊢ 𝓤 _) $ move ! (0 ∷ 2 ∷ 1 ∷ []) $ has-both ! tt l₁₀ (store .ptr) (ws .0) (ws .1 .1 .0) $
           land ! (from ! (stop !)) (init ! 9 refl (K′.the-field-laws .lawful 𝓤 H A W .typed (K.the-type .to r₁) _ is₁ .0)) $ forget ! 5 refl $ forget ! 6 refl $ forget ! 8 refl $
           nothing ! $ owned ! K.the-row (Is K.the-row) (EL.makes K.the-type K′.the-plain 𝓤 H A) r₁ _ is₁ $ fjoin ! $ owned ! O.the-row (Is O.the-row) (EL.makes O.the-type O′.the-plain 𝓤 H A) r _ is $ fjoin ! $
           owned ! u32 (Is u32) (uint-makes 𝓤 H A W w32) c _ (refl, c-fits) $ fjoin ! $ nothing ! $ join ! $
           called-last ! fm take-code.ended (take-code.clauses 𝓤 H A at-mem run) (known .take-coding) ((tt, tt, tt, (c, (r, (r₁, tt))), (vint w32 c ∷ [], (v ∷ [], (v₁ ∷ [], tt)))), tt) (id⊢ 𝓤 _) (id⊢ 𝓤 _) (and-then ! (load ! (from ! (stop !)) (look ! 11 refl)) (and-then ! (load ! (from ! (stop !)) (look ! 12 refl)) (and-then ! (load ! (from ! (stop !)) (look ! 10 refl)) (no-more !)))) (λ w c′.
-          facts ! u32 (Is u32) (shows 𝓤 H A u32) c′ (w ∷ []) (λ c-is. land-last ! (from ! (stop !)) (stores ! 10 refl (uint-lawful 𝓤 H A W w32 .typed c′ _ c-is .0)) $ rewrite ! 10 (λ (u : Val). has word l₁₀ u) (ap only (c-is .0)) refl $ forget ! 9 refl $ forget ! 11 refl $
+          facts ! u32 (Is u32) (shows 𝓤 H A u32) c′ (w ∷ []) (λ c-is. land-last ! (from ! (stop !)) (stores ! 10 refl (uint-lawful 𝓤 H A W w32 .typed c′ _ c-is .0)) $ rewrite ! 10 (λ (u : Val). has word l₁₁ u) (ap only (c-is .0)) refl $ forget ! 9 refl $ forget ! 11 refl $
           move ! (0 ∷ 1 ∷ 2 ∷ 3 ∷ 7 ∷ 4 ∷ 8 ∷ 5 ∷ 6 ∷ []) $ go (ws .0) (ws .1 .1 .0) (f ∙ e) c′ (c-is .1)))))))
 
       -- ---- `withdraw`, likewise
       abbrev Withdrawing : Table → ℕ → Item 𝓤 → List (Item 𝓤) → List (Item 𝓤)
-      Withdrawing h c a Γ = Lies 𝓤 l₉ h ∷ free ref l₂₂ ∷ free withdrawTy l₁₄ ∷ has word l₁₀ (vint w32 c) ∷ a ∷ Γ
+      Withdrawing h c a Γ = Lies 𝓤 l₁₀ h ∷ free ref l₂₃ ∷ free withdrawTy l₁₅ ∷ has word l₁₁ (vint w32 c) ∷ a ∷ has word l₉ (vint w32 tag) ∷ Γ
 
       withdrawn-one : {Γ : List (Item 𝓤)} {q : Post 𝓤 H} (h : Table) (c : ℕ) → c < 2 ^ 32 → (r : OpenAnswer) (v : Val) → Is O.the-row r (v ∷ [])
-          → ((h′ : Table) (c′ : ℕ) → c′ < 2 ^ 32 → Sq W (Withdrawing h′ c′ (free openTy l₁₂) Γ) (prop (post 𝓤 H q next)))
-          → Sq W (Withdrawing h c (has openTy l₁₂ v) Γ) (runs C Λ En withdrawing q)
+          → ((h′ : Table) (c′ : ℕ) → c′ < 2 ^ 32 → Sq W (Withdrawing h′ c′ (free openTy l₁₃) Γ) (prop (post 𝓤 H q next)))
+          → Sq W (Withdrawing h c (has openTy l₁₃ v) Γ) (runs C Λ En withdrawing q)
       withdrawn-one h c c-fits r v is go =
-          assigns ! (addr ! (from ! (stop !))) (from ! (stop !)) (init ! 1 refl (tt, tt)) $ lends ! tt h l₉ (λ α γ.
-          nothing ! $ owned ! u32 (Is u32) (uint-makes 𝓤 H A W w32) 0 _ (refl, lit< tt) $ fjoin ! $ move ! (2 ∷ 0 ∷ []) $ fjoin ! $ nothing ! $ move ! (2 ∷ 0 ∷ []) $ join ! $ join ! $
-          -- [what `withdraw` asks; the lender's part; _22; room for _14; _10; _12; …]
-          called ! fm withdraws.ended (withdraws.clauses 𝓤 H A at-mem run) (known .withdrawing) (((α ∷ [], tt), (fullShare, tt), tt, (at-table l₉ γ h, (0, tt)), (vptr l₉ 0 ∷ [], (vint w32 0 ∷ [], tt))), tt) (id⊢ 𝓤 _) (id⊢ 𝓤 _) (and-then ! (load ! (from ! (stop !)) (look ! 2 refl)) (and-then ! (lit ! tt) (no-more !))) (λ v₁ r₁ ws.
+          assigns ! (addr ! (from ! (stop !))) (from ! (stop !)) (init ! 1 refl (tt, tt)) $ lends ! tt h l₁₀ (λ α γ.
+          nothing ! $ owned ! u32 (Is u32) (uint-makes 𝓤 H A W w32) tag _ (refl, tag-fits) $ fjoin ! $ move ! (2 ∷ 0 ∷ []) $ fjoin ! $ nothing ! $ move ! (2 ∷ 0 ∷ []) $ join ! $ join ! $
+          -- [what `withdraw` asks; the lender's part; _23; room for _15; _11; _13; _9; …]
+          called ! fm withdraws.ended (withdraws.clauses 𝓤 H A at-mem run) (known .withdrawing) (((α ∷ [], tt), (fullShare, tt), tt, (at-table l₁₀ γ h, (tag, tt)), (vptr l₁₀ 0 ∷ [], (vint w32 tag ∷ [], tt))), tt) (id⊢ 𝓤 _) (id⊢ 𝓤 _) (and-then ! (load ! (from ! (stop !)) (look ! 2 refl)) (and-then ! (load ! (from ! (stop !)) (look ! 6 refl)) (no-more !))) (λ v₁ r₁ ws.
           drop ! $ fsplit ! $ move ! (1 ∷ []) $ drop ! $ move ! (1 ∷ []) $ facts ! D.the-row (Is D.the-row) (shows 𝓤 H A D.the-row) r₁ (v₁ ∷ []) (λ is₁.
           -- [the table's last value; the tokens; the lender's part; …]
-          move ! (1 ∷ []) $ use1 W (‵ (flft (α ∷ []) fullShare) ⊛ ‵ ftrue) (id⊢ 𝓤 _) $ split ! $ move ! (1 ∷ []) $ drop ! $ move ! (0 ∷ 2 ∷ 1 ∷ []) $ has-back ! tt (ws .0) l₉ $
+          move ! (1 ∷ []) $ use1 W (‵ (flft (α ∷ []) fullShare) ⊛ ‵ ftrue) (id⊢ 𝓤 _) $ split ! $ move ! (1 ∷ []) $ drop ! $ move ! (0 ∷ 2 ∷ 1 ∷ []) $ has-back ! tt (ws .0) l₁₀ $
           land ! (from ! (stop !)) (init ! 2 refl (D′.the-field-laws .lawful 𝓤 H A W .typed (D.the-type .to r₁) _ is₁ .0)) $ forget ! 1 refl $
           nothing ! $ owned ! D.the-row (Is D.the-row) (EL.makes D.the-type D′.the-plain 𝓤 H A) r₁ _ is₁ $ fjoin ! $ owned ! O.the-row (Is O.the-row) (EL.makes O.the-type O′.the-plain 𝓤 H A) r _ is $ fjoin ! $
           owned ! u32 (Is u32) (uint-makes 𝓤 H A W w32) c _ (refl, c-fits) $ fjoin ! $ nothing ! $ join ! $
           called-last ! fm withdraw-code.ended (withdraw-code.clauses 𝓤 H A at-mem run) (known .withdraw-coding) ((tt, tt, tt, (c, (r, (r₁, tt))), (vint w32 c ∷ [], (v ∷ [], (v₁ ∷ [], tt)))), tt) (id⊢ 𝓤 _) (id⊢ 𝓤 _) (and-then ! (load ! (from ! (stop !)) (look ! 4 refl)) (and-then ! (load ! (from ! (stop !)) (look ! 5 refl)) (and-then ! (load ! (from ! (stop !)) (look ! 3 refl)) (no-more !)))) (λ w c′.
-          facts ! u32 (Is u32) (shows 𝓤 H A u32) c′ (w ∷ []) (λ c-is. land-last ! (from ! (stop !)) (stores ! 3 refl (uint-lawful 𝓤 H A W w32 .typed c′ _ c-is .0)) $ rewrite ! 3 (λ (u : Val). has word l₁₀ u) (ap only (c-is .0)) refl $ forget ! 2 refl $ forget ! 4 refl $ go (ws .0) c′ (c-is .1))))))
+          facts ! u32 (Is u32) (shows 𝓤 H A u32) c′ (w ∷ []) (λ c-is. land-last ! (from ! (stop !)) (stores ! 3 refl (uint-lawful 𝓤 H A W w32 .typed c′ _ c-is .0)) $ rewrite ! 3 (λ (u : Val). has word l₁₁ u) (ap only (c-is .0)) refl $ forget ! 2 refl $ forget ! 4 refl $ go (ws .0) c′ (c-is .1))))))
 
-      -- ---- the loop: all that is had, with a for `_12` and t for `_15`, the test's local. The invariant has neither
+      -- ---- the loop: all that is had, with a for `_13` and t for `_16`, the test's local. The invariant has neither
       abbrev Held : Turn → Item 𝓤 → Item 𝓤 → List (Item 𝓤)
       Held s a t = Opening (s .table) (s .sent) a
-          (Row 𝓤 (store .ptr) (s .kept) ∷ ‵ (ShrSlice (named 1) κ₀ u8 .own bytes (s₅ ∷ [])) ∷ ‵ (flft κ₀ q₀) ∷ has (slot (named 0) imm) l₅ s₅ ∷ has (slot (named 2) mut) l₇ s₇ ∷ free ref l₁₉ ∷ free byteRef l₂₀ ∷ free (slot erased mut) l₂₁ ∷ free takeTy l₁₃ ∷ has word l₁₀ (vint w32 (s .code))
-          ∷ free ref l₂₂ ∷ free withdrawTy l₁₄ ∷ has word l₁₁ (vint w32 (s .made)) ∷ has word l₃ (vint w32 n) ∷ has tyBool l₂ (vbool taken) ∷ t ∷ free T′.mir l₁ ∷ free word l₀
-          ∷ dies word l₀ ∷ dies T′.mir l₁ ∷ dies tyBool l₂ ∷ dies word l₃ ∷ dies Q′.mir l₄ ∷ dies (slot (named 0) imm) l₅ ∷ dies (slot (named 1) imm) l₆ ∷ dies (slot (named 2) mut) l₇ ∷ dies (slot (named 3) mut) l₈ ∷ dies T′.mir l₉ ∷ dies word l₁₀ ∷ dies word l₁₁ ∷ dies openTy l₁₂ ∷ dies takeTy l₁₃ ∷ dies withdrawTy l₁₄ ∷ dies tyBool l₁₅ ∷ dies ref l₁₆ ∷ dies byteRef l₁₇ ∷ dies (slot erased mut) l₁₈ ∷ dies ref l₁₉ ∷ dies byteRef l₂₀ ∷ dies (slot erased mut) l₂₁ ∷ dies ref l₂₂
+          (Row 𝓤 (store .ptr) (s .kept) ∷ ‵ (ShrSlice (named 1) κ₀ u8 .own bytes (s₅ ∷ [])) ∷ ‵ (flft κ₀ q₀) ∷ has (slot (named 0) imm) l₅ s₅ ∷ has (slot (named 2) mut) l₇ s₇ ∷ free ref l₂₀ ∷ free byteRef l₂₁ ∷ free (slot erased mut) l₂₂ ∷ free takeTy l₁₄ ∷ has word l₁₁ (vint w32 (s .code))
+          ∷ free ref l₂₃ ∷ free withdrawTy l₁₅ ∷ has word l₁₂ (vint w32 (s .made)) ∷ has word l₃ (vint w32 n) ∷ has tyBool l₂ (vbool taken) ∷ t ∷ free T′.mir l₁ ∷ free word l₀
+          ∷ dies word l₀ ∷ dies T′.mir l₁ ∷ dies tyBool l₂ ∷ dies word l₃ ∷ dies Q′.mir l₄ ∷ dies (slot (named 0) imm) l₅ ∷ dies (slot (named 1) imm) l₆ ∷ dies (slot (named 2) mut) l₇ ∷ dies (slot (named 3) mut) l₈ ∷ dies word l₉ ∷ dies T′.mir l₁₀ ∷ dies word l₁₁ ∷ dies word l₁₂ ∷ dies openTy l₁₃ ∷ dies takeTy l₁₄ ∷ dies withdrawTy l₁₅ ∷ dies tyBool l₁₆ ∷ dies ref l₁₇ ∷ dies byteRef l₁₈ ∷ dies (slot erased mut) l₁₉ ∷ dies ref l₂₀ ∷ dies byteRef l₂₁ ∷ dies (slot erased mut) l₂₂ ∷ dies ref l₂₃
           ∷ WayBack 𝓤 κ₂ q₂ store (WayBack 𝓤 κ₃ q₃ out []))
 
       abbrev At : Turn → List (Item 𝓤)
-      At s = Held s (free openTy l₁₂) (free tyBool l₁₅)
+      At s = Held s (free openTy l₁₃) (free tyBool l₁₆)
 
       abbrev Turned : Turn → Out → SProp 𝓤
       Turned s = afterTurn 𝓤 H (Below 𝓤 H A Nearer At s) (afterBlock 𝓤 H (afterSeq 𝓤 H (Wp 𝓤 H C Λ En ending (atReturn 𝓤 H En Finally)) (atReturn 𝓤 H En Finally)))
@@ -352,75 +352,75 @@ module _ {M : Type 1} (𝓤 : URA M) (H : Heap 𝓤) (A : Atoms 𝓤) (at-mem : 
       made-fits s = lt-of-le-of-lt (s .within) n-fits
 
       -- the end of a turn from s₀: one more was made
-      onward : (s₀ s : Turn) → s .made ≡ s₀ .made → Holds (ltb (s .made) n) → (y : Bool) → Sq W (Held s (free openTy l₁₂) (has tyBool l₁₅ (vbool y))) (prop (Wp 𝓤 H C Λ En more (Turned s₀)))
+      onward : (s₀ s : Turn) → s .made ≡ s₀ .made → Holds (ltb (s .made) n) → (y : Bool) → Sq W (Held s (free openTy l₁₃) (has tyBool l₁₆ (vbool y))) (prop (Wp 𝓤 H C Λ En more (Turned s₀)))
       unfolding afterTurn
       onward s₀ s e less y =
-          exec ! C Λ En more (anyQ (Turned s₀)) $ assigns-last ! (bin ! (load ! (from ! (stop !)) (look ! 23 refl)) (lit ! tt) (record { fits = made-fits after })) (from ! (stop !)) (stores ! 23 refl (tt, record { fits = made-fits after })) $ forget ! 26 refl $
+          exec ! C Λ En more (anyQ (Turned s₀)) $ assigns-last ! (bin ! (load ! (from ! (stop !)) (look ! 24 refl)) (lit ! tt) (record { fits = made-fits after })) (from ! (stop !)) (stores ! 24 refl (tt, record { fits = made-fits after })) $ forget ! 27 refl $
           again ! Nearer At s₀ after (subst (λ (m : ℕ). n - (s .made + 1) < n - m) e (add-one-dec n (s .made) (ltb→lt (s .made) n less)))
         where
           after : Turn
           after = record { made = s .made + 1; within = add-one-le (ltb→lt (s .made) n less); code = s .code; code-fits = s .code-fits; table = s .table; kept = s .kept; kept-all = s .kept-all; sent = s .sent; sent-all = s .sent-all }
 
       -- the loop is left: what was lent is whole again, and the code is returned
-      left : (s : Turn) (y : Bool) → Sq W (Held s (free openTy l₁₂) (has tyBool l₁₅ (vbool y))) (prop (Wp 𝓤 H C Λ En ending (atReturn 𝓤 H En Finally)))
+      left : (s : Turn) (y : Bool) → Sq W (Held s (free openTy l₁₃) (has tyBool l₁₆ (vbool y))) (prop (Wp 𝓤 H C Λ En ending (atReturn 𝓤 H En Finally)))
       left s y =
-          exec ! C Λ En ending (atRet En Finally) $ move ! (11 ∷ 52 ∷ 53 ∷ 54 ∷ []) $ shut ! tt store (s .kept) (s .kept-all) fit₇ $ move ! (3 ∷ 53 ∷ 54 ∷ 55 ∷ []) $ shut ! tt out (s .sent) (s .sent-all) fit₈ $ move ! (4 ∷ []) $ lifted ! (s .table) l₉ $
-          -- [_9; the output and its token; the store and its token; the room and its token; _4; _6; _8; _16; _17; _18; _12; the bytes and their token (14); _5; _7; _19; _20; _21; _13; _10; _22; _14; _11; _3; _2; _15; _1; _0; …]
-          assigns ! (of-opd ! (load ! (from ! (stop !)) (look ! 22 refl))) (from ! (stop !)) (init ! 30 refl (tt, record { fits = s .code-fits })) $ returns ! (look ! 30 refl) $
-          forget ! 0 refl $ forget ! 7 refl $ forget ! 8 refl $ forget ! 9 refl $ forget ! 16 refl $ forget ! 17 refl $ forget ! 22 refl $ forget ! 25 refl $ forget ! 26 refl $ forget ! 27 refl $ forget ! 28 refl $ forget ! 30 refl $
-          move ! (30 ∷ 31 ∷ 29 ∷ 32 ∷ 27 ∷ 33 ∷ 26 ∷ 34 ∷ 7 ∷ 35 ∷ 16 ∷ 36 ∷ 8 ∷ 37 ∷ 17 ∷ 38 ∷ 9 ∷ 39 ∷ 0 ∷ 40 ∷ 22 ∷ 41 ∷ 25 ∷ 42 ∷ 13 ∷ 43 ∷ 21 ∷ 44 ∷ 24 ∷ 45 ∷ 28 ∷ 46 ∷ 10 ∷ 47 ∷ 11 ∷ 48 ∷ 12 ∷ 49 ∷ 18 ∷ 50 ∷ 19 ∷ 51 ∷ 20 ∷ 52 ∷ 23 ∷ 53 ∷ []) $
+          exec ! C Λ En ending (atRet En Finally) $ move ! (12 ∷ 54 ∷ 55 ∷ 56 ∷ []) $ shut ! tt store (s .kept) (s .kept-all) fit₇ $ move ! (3 ∷ 55 ∷ 56 ∷ 57 ∷ []) $ shut ! tt out (s .sent) (s .sent-all) fit₈ $ move ! (4 ∷ []) $ lifted ! (s .table) l₁₀ $
+          -- [_10; the output and its token; the store and its token; the room and its token; _4; _6; _8; _17; _18; _19; _13; _9; the bytes and their token (15); _5; _7; _20; _21; _22; _14; _11; _23; _15; _12; _3; _2; _16; _1; _0; …]
+          assigns ! (of-opd ! (load ! (from ! (stop !)) (look ! 23 refl))) (from ! (stop !)) (init ! 31 refl (tt, record { fits = s .code-fits })) $ returns ! (look ! 31 refl) $
+          forget ! 0 refl $ forget ! 7 refl $ forget ! 8 refl $ forget ! 9 refl $ forget ! 14 refl $ forget ! 17 refl $ forget ! 18 refl $ forget ! 23 refl $ forget ! 26 refl $ forget ! 27 refl $ forget ! 28 refl $ forget ! 29 refl $ forget ! 31 refl $
+          move ! (31 ∷ 32 ∷ 30 ∷ 33 ∷ 28 ∷ 34 ∷ 27 ∷ 35 ∷ 7 ∷ 36 ∷ 17 ∷ 37 ∷ 8 ∷ 38 ∷ 18 ∷ 39 ∷ 9 ∷ 40 ∷ 14 ∷ 41 ∷ 0 ∷ 42 ∷ 23 ∷ 43 ∷ 26 ∷ 44 ∷ 13 ∷ 45 ∷ 22 ∷ 46 ∷ 25 ∷ 47 ∷ 29 ∷ 48 ∷ 10 ∷ 49 ∷ 11 ∷ 50 ∷ 12 ∷ 51 ∷ 19 ∷ 52 ∷ 20 ∷ 53 ∷ 21 ∷ 54 ∷ 24 ∷ 55 ∷ []) $
           freed ! En $ by ! (exits s)
 
       turn : (s : Turn) → Sq W (At s) (runs C Λ En whole-turn (anyQ (Turned s)))
       unfolding afterTurn
       turn s =
-          assigns ! (bin ! (load ! (from ! (stop !)) (look ! 23 refl)) (load ! (from ! (stop !)) (look ! 24 refl)) tt) (from ! (stop !)) (init ! 26 refl (tt, tt)) $
-          first ! $ branches ! (load ! (from ! (stop !)) (look ! 26 refl))
+          assigns ! (bin ! (load ! (from ! (stop !)) (look ! 24 refl)) (load ! (from ! (stop !)) (look ! 25 refl)) tt) (from ! (stop !)) (init ! 27 refl (tt, tt)) $
+          first ! $ branches ! (load ! (from ! (stop !)) (look ! 27 refl))
           (λ less. skips ! $ exec ! C Λ En rest-of-turn (anyQ (Turned s)) $ opened-one (s .table) (s .sent) (s .sent-all) (λ h zs f r v is.
-          assigns ! (of-opd ! (load ! (from ! (stop !)) (look ! 25 refl))) (from ! (stop !)) (stores ! 26 refl (tt, tt)) $ first ! $ branches ! (load ! (from ! (stop !)) (look ! 26 refl))
-          (λ _. move ! (0 ∷ 11 ∷ 12 ∷ 13 ∷ 14 ∷ 15 ∷ 16 ∷ 17 ∷ 18 ∷ 19 ∷ 20 ∷ 10 ∷ []) $ taken-one h (s .kept) (s .kept-all) (s .code) (s .code-fits) r v is (λ h′ ys e c c-fits. move ! (0 ∷ 12 ∷ 13 ∷ 14 ∷ 15 ∷ 16 ∷ 17 ∷ 18 ∷ 19 ∷ 20 ∷ 11 ∷ []) $
+          assigns ! (of-opd ! (load ! (from ! (stop !)) (look ! 26 refl))) (from ! (stop !)) (stores ! 27 refl (tt, tt)) $ first ! $ branches ! (load ! (from ! (stop !)) (look ! 27 refl))
+          (λ _. move ! (0 ∷ 12 ∷ 13 ∷ 14 ∷ 15 ∷ 16 ∷ 17 ∷ 18 ∷ 19 ∷ 20 ∷ 21 ∷ 10 ∷ []) $ taken-one h (s .kept) (s .kept-all) (s .code) (s .code-fits) r v is (λ h′ ys e c c-fits. move ! (0 ∷ 12 ∷ 13 ∷ 14 ∷ 15 ∷ 16 ∷ 17 ∷ 18 ∷ 19 ∷ 20 ∷ 11 ∷ 21 ∷ []) $
           onward s (record { made = s .made; within = s .within; code = c; code-fits = c-fits; table = h′; kept = ys; kept-all = e; sent = zs; sent-all = f }) refl less taken))
-          (λ _. move ! (0 ∷ 21 ∷ 22 ∷ 20 ∷ 10 ∷ []) $ withdrawn-one h (s .code) (s .code-fits) r v is (λ h′ c c-fits. move ! (0 ∷ 5 ∷ 6 ∷ 7 ∷ 8 ∷ 9 ∷ 10 ∷ 11 ∷ 12 ∷ 13 ∷ 4 ∷ 14 ∷ 15 ∷ 16 ∷ 17 ∷ 18 ∷ 19 ∷ 20 ∷ 21 ∷ 22 ∷ 3 ∷ 1 ∷ 2 ∷ []) $
+          (λ _. move ! (0 ∷ 22 ∷ 23 ∷ 21 ∷ 10 ∷ 11 ∷ []) $ withdrawn-one h (s .code) (s .code-fits) r v is (λ h′ c c-fits. move ! (0 ∷ 6 ∷ 7 ∷ 8 ∷ 9 ∷ 10 ∷ 11 ∷ 12 ∷ 13 ∷ 14 ∷ 4 ∷ 5 ∷ 15 ∷ 16 ∷ 17 ∷ 18 ∷ 19 ∷ 20 ∷ 21 ∷ 22 ∷ 23 ∷ 3 ∷ 1 ∷ 2 ∷ []) $
           onward s (record { made = s .made; within = s .within; code = c; code-fits = c-fits; table = h′; kept = s .kept; kept-all = s .kept-all; sent = zs; sent-all = f }) refl less taken))))
           (λ _. jumps ! $ left s _)
 
       -- ---- the code up to the loop, once the parameters are in their locals
       abbrev Entered : List (Item 𝓤)
-      Entered = free ref l₂₂ ∷ dies ref l₂₂ ∷ free (slot erased mut) l₂₁ ∷ dies (slot erased mut) l₂₁ ∷ free byteRef l₂₀ ∷ dies byteRef l₂₀ ∷ free ref l₁₉ ∷ dies ref l₁₉ ∷ free (slot erased mut) l₁₈ ∷ dies (slot erased mut) l₁₈ ∷ free byteRef l₁₇ ∷ dies byteRef l₁₇
-          ∷ free ref l₁₆ ∷ dies ref l₁₆ ∷ free tyBool l₁₅ ∷ dies tyBool l₁₅ ∷ free withdrawTy l₁₄ ∷ dies withdrawTy l₁₄ ∷ free takeTy l₁₃ ∷ dies takeTy l₁₃ ∷ free openTy l₁₂ ∷ dies openTy l₁₂ ∷ free word l₁₁ ∷ dies word l₁₁
-          ∷ free word l₁₀ ∷ dies word l₁₀ ∷ free T′.mir l₉ ∷ dies T′.mir l₉ ∷ has (slot (named 3) mut) l₈ s₈ ∷ dies (slot (named 3) mut) l₈ ∷ has (slot (named 2) mut) l₇ s₇ ∷ dies (slot (named 2) mut) l₇ ∷ has (slot (named 1) imm) l₆ s₆ ∷ dies (slot (named 1) imm) l₆ ∷ has (slot (named 0) imm) l₅ s₅ ∷ dies (slot (named 0) imm) l₅
+      Entered = free ref l₂₃ ∷ dies ref l₂₃ ∷ free (slot erased mut) l₂₂ ∷ dies (slot erased mut) l₂₂ ∷ free byteRef l₂₁ ∷ dies byteRef l₂₁ ∷ free ref l₂₀ ∷ dies ref l₂₀ ∷ free (slot erased mut) l₁₉ ∷ dies (slot erased mut) l₁₉ ∷ free byteRef l₁₈ ∷ dies byteRef l₁₈
+          ∷ free ref l₁₇ ∷ dies ref l₁₇ ∷ free tyBool l₁₆ ∷ dies tyBool l₁₆ ∷ free withdrawTy l₁₅ ∷ dies withdrawTy l₁₅ ∷ free takeTy l₁₄ ∷ dies takeTy l₁₄ ∷ free openTy l₁₃ ∷ dies openTy l₁₃ ∷ free word l₁₂ ∷ dies word l₁₂
+          ∷ free word l₁₁ ∷ dies word l₁₁ ∷ free T′.mir l₁₀ ∷ dies T′.mir l₁₀ ∷ has word l₉ (vint w32 tag) ∷ dies word l₉ ∷ has (slot (named 3) mut) l₈ s₈ ∷ dies (slot (named 3) mut) l₈ ∷ has (slot (named 2) mut) l₇ s₇ ∷ dies (slot (named 2) mut) l₇ ∷ has (slot (named 1) imm) l₆ s₆ ∷ dies (slot (named 1) imm) l₆ ∷ has (slot (named 0) imm) l₅ s₅ ∷ dies (slot (named 0) imm) l₅
           ∷ has Q′.mir l₄ (asked p) ∷ dies Q′.mir l₄ ∷ has word l₃ (vint w32 n) ∷ dies word l₃ ∷ has tyBool l₂ (vbool taken) ∷ dies tyBool l₂ ∷ has T′.mir l₁ (mach h₀) ∷ dies T′.mir l₁ ∷ free word l₀ ∷ dies word l₀
           ∷ ‵ (MutSlice (named 2) κ₃ u8 .own out (s₈ ∷ [])) ∷ ‵ (MutSlice (named 2) κ₂ u8 .own store (s₇ ∷ [])) ∷ ‵ (ShrSlice (named 1) κ₁ u8 .own room (s₆ ∷ [])) ∷ ‵ (ShrSlice (named 1) κ₀ u8 .own bytes (s₅ ∷ []))
           ∷ ‵ (flft κ₃ q₃) ∷ ‵ (flft κ₂ q₂) ∷ ‵ (flft κ₁ q₁) ∷ ‵ (flft κ₀ q₀) ∷ []
 
       started : Sq W Entered (runs C Λ En all-code (atRet En Finally))
       started =
-          -- [room for _22; …; _8 (28); …; _1 (42); …; room for _0; …; the output (46); the store; the room; the bytes; their tokens in this order]
-          assigns ! (of-opd ! (load ! (from ! (stop !)) (look ! 42 refl))) (from ! (stop !)) (init ! 26 refl (LL.lawful T.the-type T′.the-laws 𝓤 H A W .typed h₀ _ h₀-is .0)) $
-          assigns ! (of-opd ! (lit ! tt)) (from ! (stop !)) (init ! 24 refl (tt, record { fits = lit< tt })) $ assigns ! (of-opd ! (lit ! tt)) (from ! (stop !)) (init ! 22 refl (tt, record { fits = lit< tt })) $ forget ! 42 refl $
-          move ! (26 ∷ []) $ laid ! h₀ l₉ h₀-is $ move ! (47 ∷ 51 ∷ []) $ opened ! tt store (s₇ ∷ []) $ move ! (50 ∷ 53 ∷ []) $ opened ! tt out (s₈ ∷ []) $
-          move ! (8 ∷ 0 ∷ 54 ∷ 56 ∷ 44 ∷ 40 ∷ 36 ∷ 21 ∷ 19 ∷ 17 ∷ 29 ∷ 4 ∷ 55 ∷ 57 ∷ 42 ∷ 38 ∷ 15 ∷ 13 ∷ 11 ∷ 27 ∷ 33 ∷ 9 ∷ 25 ∷ 31 ∷ 46 ∷ 48 ∷ 23 ∷ 50 ∷ 52 ∷ 53 ∷ 51 ∷ 49 ∷ 47 ∷ 45 ∷ 43 ∷ 41 ∷ 39 ∷ 37 ∷ 35 ∷ 34 ∷ 32 ∷ 30 ∷ 28 ∷ 26 ∷ 24 ∷ 22 ∷ 20 ∷ 18 ∷ 16 ∷ 14 ∷ 12 ∷ 10 ∷ 5 ∷ 6 ∷ 7 ∷ 1 ∷ 2 ∷ 3 ∷ []) $
+          -- [room for _23; …; _9 (28); …; _1 (44); …; room for _0; …; the output (48); the store; the room; the bytes; their tokens in this order]
+          assigns ! (of-opd ! (load ! (from ! (stop !)) (look ! 44 refl))) (from ! (stop !)) (init ! 26 refl (LL.lawful T.the-type T′.the-laws 𝓤 H A W .typed h₀ _ h₀-is .0)) $
+          assigns ! (of-opd ! (lit ! tt)) (from ! (stop !)) (init ! 24 refl (tt, record { fits = lit< tt })) $ assigns ! (of-opd ! (lit ! tt)) (from ! (stop !)) (init ! 22 refl (tt, record { fits = lit< tt })) $ forget ! 44 refl $
+          move ! (26 ∷ []) $ laid ! h₀ l₁₀ h₀-is $ move ! (49 ∷ 53 ∷ []) $ opened ! tt store (s₇ ∷ []) $ move ! (52 ∷ 55 ∷ []) $ opened ! tt out (s₈ ∷ []) $
+          move ! (8 ∷ 0 ∷ 56 ∷ 58 ∷ 46 ∷ 42 ∷ 38 ∷ 21 ∷ 19 ∷ 17 ∷ 29 ∷ 36 ∷ 4 ∷ 57 ∷ 59 ∷ 44 ∷ 40 ∷ 15 ∷ 13 ∷ 11 ∷ 27 ∷ 33 ∷ 9 ∷ 25 ∷ 31 ∷ 48 ∷ 50 ∷ 23 ∷ 52 ∷ 54 ∷ 55 ∷ 53 ∷ 51 ∷ 49 ∷ 47 ∷ 45 ∷ 43 ∷ 41 ∷ 39 ∷ 37 ∷ 35 ∷ 34 ∷ 32 ∷ 30 ∷ 28 ∷ 26 ∷ 24 ∷ 22 ∷ 20 ∷ 18 ∷ 16 ∷ 14 ∷ 12 ∷ 10 ∷ 5 ∷ 6 ∷ 7 ∷ 1 ∷ 2 ∷ 3 ∷ []) $
           first ! $ blocks ! $ loops ! 𝓣 Nearer Nearer-wf At turn begins
 
-    walk : (𝓣 : Tables 𝓤 H) → Known (𝓣 .C) → ent 𝓤 (onEntry 𝓤 H A turning.signature (κ₀, (κ₁, (κ₂, (κ₃, tt)))) (q₀, (q₁, (q₂, (q₃, tt)))) x at) (WpFn 𝓤 H (𝓣 .C) (𝓣 .Λ) code.function (mach h₀ ∷ vbool taken ∷ vint w32 n ∷ asked p ∷ s₅ ∷ s₆ ∷ s₇ ∷ s₈ ∷ []) Finally)
+    walk : (𝓣 : Tables 𝓤 H) → Known (𝓣 .C) → ent 𝓤 (onEntry 𝓤 H A turning.signature (κ₀, (κ₁, (κ₂, (κ₃, tt)))) (q₀, (q₁, (q₂, (q₃, tt)))) x at) (WpFn 𝓤 H (𝓣 .C) (𝓣 .Λ) code.function (mach h₀ ∷ vbool taken ∷ vint w32 n ∷ asked p ∷ s₅ ∷ s₆ ∷ s₇ ∷ s₈ ∷ vint w32 tag ∷ []) Finally)
     walk 𝓣 known =
         qed W ((‵ (flft κ₀ q₀) ⊛ ‵ (flft κ₁ q₁) ⊛ ‵ (flft κ₂ q₂) ⊛ ‵ (flft κ₃ q₃) ⊛ ‵ ftrue)
-        ∷ ‵ (owns (T.the-row ∷ bool ∷ u32 ∷ Q.the-row ∷ ShrSlice (named 0) κ₀ u8 ∷ ShrSlice (named 1) κ₁ u8 ∷ MutSlice (named 2) κ₂ u8 ∷ MutSlice (named 3) κ₃ u8 ∷ []) x at) ∷ []) ∵
+        ∷ ‵ (owns (T.the-row ∷ bool ∷ u32 ∷ Q.the-row ∷ ShrSlice (named 0) κ₀ u8 ∷ ShrSlice (named 1) κ₁ u8 ∷ MutSlice (named 2) κ₂ u8 ∷ MutSlice (named 3) κ₃ u8 ∷ u32 ∷ []) x at) ∷ []) ∵
         split ! $ move ! (1 ∷ []) $ split ! $ move ! (1 ∷ []) $ split ! $ move ! (1 ∷ []) $ split ! $ move ! (1 ∷ []) $ drop ! $ move ! (4 ∷ []) $ fsplit ! $ drop ! $ fsplit ! $ drop ! $ fsplit ! $ drop ! $ fsplit ! $ drop ! $
-        fsplit ! $ move ! (1 ∷ []) $ fsplit ! $ move ! (1 ∷ []) $ fsplit ! $ move ! (1 ∷ []) $ fsplit ! $ move ! (1 ∷ []) $ drop ! $
-        enter ! (𝓣 .C) (𝓣 .Λ) code.function (mach h₀ ∷ vbool taken ∷ vint w32 n ∷ asked p ∷ s₅ ∷ s₆ ∷ s₇ ∷ s₈ ∷ []) _ $
-        alloc1 ! (λ l₀. alloc1 ! (λ l₁. alloc1 ! (λ l₂. alloc1 ! (λ l₃. alloc1 ! (λ l₄. alloc1 ! (λ l₅. alloc1 ! (λ l₆. alloc1 ! (λ l₇. alloc1 ! (λ l₈. alloc1 ! (λ l₉. alloc1 ! (λ l₁₀. alloc1 ! (λ l₁₁. alloc1 ! (λ l₁₂. alloc1 ! (λ l₁₃. alloc1 ! (λ l₁₄. alloc1 ! (λ l₁₅. alloc1 ! (λ l₁₆. alloc1 ! (λ l₁₇. alloc1 ! (λ l₁₈. alloc1 ! (λ l₁₉. alloc1 ! (λ l₂₀. alloc1 ! (λ l₂₁. alloc1 ! (λ l₂₂. alloc0 ! $ params1 ! $
-        pass1 ! (init ! 42 refl (LL.lawful T.the-type T′.the-laws 𝓤 H A W .typed h₀ _ h₀-is .0)) $ pass1 ! (init ! 40 refl (tt, tt)) $ pass1 ! (init ! 38 refl (tt, record { fits = n-fits })) $ pass1 ! (init ! 36 refl (LL.lawful Q.the-type Q′.the-laws 𝓤 H A W .typed p _ p-is .0)) $
-        pass1 ! (init ! 34 refl (tt, (tt, (record { fits = fit₅ .0 }, tt)))) $ pass1 ! (init ! 32 refl (tt, (tt, (record { fits = fit₆ .0 }, tt)))) $ pass1 ! (init ! 30 refl (tt, (tt, (record { fits = fit₇ .0 }, tt)))) $ pass1 ! (init ! 28 refl (tt, (tt, (record { fits = fit₈ .0 }, tt)))) $ pass0 ! $
-        started 𝓣 known l₀ l₁ l₂ l₃ l₄ l₅ l₆ l₇ l₈ l₉ l₁₀ l₁₁ l₁₂ l₁₃ l₁₄ l₁₅ l₁₆ l₁₇ l₁₈ l₁₉ l₂₀ l₂₁ l₂₂)))))))))))))))))))))))
+        fsplit ! $ move ! (1 ∷ []) $ fsplit ! $ move ! (1 ∷ []) $ fsplit ! $ move ! (1 ∷ []) $ fsplit ! $ move ! (1 ∷ []) $ fsplit ! $ drop ! $ drop ! $
+        enter ! (𝓣 .C) (𝓣 .Λ) code.function (mach h₀ ∷ vbool taken ∷ vint w32 n ∷ asked p ∷ s₅ ∷ s₆ ∷ s₇ ∷ s₈ ∷ vint w32 tag ∷ []) _ $
+        alloc1 ! (λ l₀. alloc1 ! (λ l₁. alloc1 ! (λ l₂. alloc1 ! (λ l₃. alloc1 ! (λ l₄. alloc1 ! (λ l₅. alloc1 ! (λ l₆. alloc1 ! (λ l₇. alloc1 ! (λ l₈. alloc1 ! (λ l₉. alloc1 ! (λ l₁₀. alloc1 ! (λ l₁₁. alloc1 ! (λ l₁₂. alloc1 ! (λ l₁₃. alloc1 ! (λ l₁₄. alloc1 ! (λ l₁₅. alloc1 ! (λ l₁₆. alloc1 ! (λ l₁₇. alloc1 ! (λ l₁₈. alloc1 ! (λ l₁₉. alloc1 ! (λ l₂₀. alloc1 ! (λ l₂₁. alloc1 ! (λ l₂₂. alloc1 ! (λ l₂₃. alloc0 ! $ params1 ! $
+        pass1 ! (init ! 44 refl (LL.lawful T.the-type T′.the-laws 𝓤 H A W .typed h₀ _ h₀-is .0)) $ pass1 ! (init ! 42 refl (tt, tt)) $ pass1 ! (init ! 40 refl (tt, record { fits = n-fits })) $ pass1 ! (init ! 38 refl (LL.lawful Q.the-type Q′.the-laws 𝓤 H A W .typed p _ p-is .0)) $
+        pass1 ! (init ! 36 refl (tt, (tt, (record { fits = fit₅ .0 }, tt)))) $ pass1 ! (init ! 34 refl (tt, (tt, (record { fits = fit₆ .0 }, tt)))) $ pass1 ! (init ! 32 refl (tt, (tt, (record { fits = fit₇ .0 }, tt)))) $ pass1 ! (init ! 30 refl (tt, (tt, (record { fits = fit₈ .0 }, tt)))) $ pass1 ! (init ! 28 refl (tt, record { fits = tag-fits })) $ pass0 ! $
+        started 𝓣 known l₀ l₁ l₂ l₃ l₄ l₅ l₆ l₇ l₈ l₉ l₁₀ l₁₁ l₁₂ l₁₃ l₁₄ l₁₅ l₁₆ l₁₇ l₁₈ l₁₉ l₂₀ l₂₁ l₂₂ l₂₃))))))))))))))))))))))))
 
   module _ (W : Given 𝓤 H A) (𝓣 : Tables 𝓤 H) (known : Known (𝓣 .C)) where
     walks : Walks 𝓤 H A turning.ended stayed (WpFn 𝓤 H (𝓣 .C) (𝓣 .Λ) code.function) (turning.clauses 𝓤 H A at-mem run)
     walks = walked 𝓤 H A turning.ended stayed (turning.clauses 𝓤 H A at-mem run) (WpFn 𝓤 H (𝓣 .C) (𝓣 .Λ) code.function)
-        (λ κs. (LL.vals T.the-type T′.the-laws, (bool-vals, (uint-vals w32, (LL.vals Q.the-type Q′.the-laws, (slice-vals, (slice-vals, (slice-vals, (slice-vals, tt)))))))))
-        (λ κs. (LL.tells T.the-type T′.the-laws, (bool-tells, (uint-tells w32, (LL.tells Q.the-type Q′.the-laws, (shr-slice-tells (named 0) (κs .0) u8, (shr-slice-tells (named 1) (κs .1 .0) u8, (mut-slice-tells (named 2) (κs .1 .1 .0) u8, (mut-slice-tells (named 3) (κs .1 .1 .1 .0) u8, tt)))))))))
+        (λ κs. (LL.vals T.the-type T′.the-laws, (bool-vals, (uint-vals w32, (LL.vals Q.the-type Q′.the-laws, (slice-vals, (slice-vals, (slice-vals, (slice-vals, (uint-vals w32, tt))))))))))
+        (λ κs. (LL.tells T.the-type T′.the-laws, (bool-tells, (uint-tells w32, (LL.tells Q.the-type Q′.the-laws, (shr-slice-tells (named 0) (κs .0) u8, (shr-slice-tells (named 1) (κs .1 .0) u8, (mut-slice-tells (named 2) (κs .1 .1 .0) u8, (mut-slice-tells (named 3) (κs .1 .1 .1 .0) u8, (uint-tells w32, tt))))))))))
         (λ κs qs bounds a g are. via 𝓤 _ (fst∗ 𝓤 _ (emp 𝓤)) (walk W (κs .0) (κs .1 .0) (κs .1 .1 .0) (κs .1 .1 .1 .0) (qs .0) (qs .1 .0) (qs .1 .1 .0) (qs .1 .1 .1 .0) (a .0) (are .0) (a .1 .0) (a .1 .1 .0) (are .1 .1 .0 .1) (a .1 .1 .1 .0) (are .1 .1 .1 .0)
-        (a .1 .1 .1 .1 .0) (a .1 .1 .1 .1 .1 .0) (a .1 .1 .1 .1 .1 .1 .0) (a .1 .1 .1 .1 .1 .1 .1 .0) (are .1 .1 .1 .1 .0 .0 .1) (are .1 .1 .1 .1 .1 .0 .0 .1) (are .1 .1 .1 .1 .1 .1 .0 .0 .1) (are .1 .1 .1 .1 .1 .1 .1 .0 .0 .1) 𝓣 known))
+        (a .1 .1 .1 .1 .0) (a .1 .1 .1 .1 .1 .0) (a .1 .1 .1 .1 .1 .1 .0) (a .1 .1 .1 .1 .1 .1 .1 .0) (are .1 .1 .1 .1 .0 .0 .1) (are .1 .1 .1 .1 .1 .0 .0 .1) (are .1 .1 .1 .1 .1 .1 .0 .0 .1) (are .1 .1 .1 .1 .1 .1 .1 .0 .0 .1) (a .1 .1 .1 .1 .1 .1 .1 .1 .0) (are .1 .1 .1 .1 .1 .1 .1 .1 .0 .1) 𝓣 known))
 
     goes : AllGo 𝓤 H A W 4 (turning.signature .params) (turning.ended .kept) stayed
     goes = (
@@ -431,7 +431,7 @@ module _ {M : Type 1} (𝓤 : URA M) (H : Heap 𝓤) (A : Atoms 𝓤) (at-mem : 
           goes-none 𝓤 H A W 4 (λ _. u32) yes (λ κs x f. refl),
           (
             goes-none 𝓤 H A W 4 (λ _. Q.the-row) yes (λ κs x f. refl),
-            (goes-none-slice 𝓤 H A W 4 (0 ∷ []) tt (plain (λ _. u8)) yes, (goes-none-slice 𝓤 H A W 4 (1 ∷ []) tt (plain (λ _. u8)) yes, (goes-slice 𝓤 H A W 4 2 tt (plain (λ _. u8)), (goes-slice 𝓤 H A W 4 3 tt (plain (λ _. u8)), tt)))),
+            (goes-none-slice 𝓤 H A W 4 (0 ∷ []) tt (plain (λ _. u8)) yes, (goes-none-slice 𝓤 H A W 4 (1 ∷ []) tt (plain (λ _. u8)) yes, (goes-slice 𝓤 H A W 4 2 tt (plain (λ _. u8)), (goes-slice 𝓤 H A W 4 3 tt (plain (λ _. u8)), (goes-none 𝓤 H A W 4 (λ _. u32) yes (λ κs x f. refl), tt))))),
           ),
         ),
       ),

@@ -4,10 +4,10 @@ use Rattle.reads_turns.proofs.packet.put_packet.Statement.{statement}
 use Rattle.reads_turns.proofs.packet.put_packet.Tie as tie
 
 abbrev Inv-loop : tie.InvT-loop
-Inv-loop size out₀ dw k₀ out k = k ≤ size
+Inv-loop size tag out₀ dw k₀ out k = k ≤ size
 
 abbrev μ-loop : tie.MeasureT-loop
-μ-loop size out₀ dw k₀ out k = size - k
+μ-loop size tag out₀ dw k₀ out k = size - k
 
 element-write-out : tie.Need-element-write-out Inv-loop μ-loop
 element-write-out c = search needs
@@ -42,20 +42,26 @@ element-write-out-6 c = search needs
 element-write-out-7 : tie.Need-element-write-out-7 Inv-loop μ-loop
 element-write-out-7 c = search needs
 
+cast-out-5 : tie.Need-cast-out-5 Inv-loop μ-loop
+cast-out-5 c = search needs
+
+element-write-out-8 : tie.Need-element-write-out-8 Inv-loop μ-loop
+element-write-out-8 c = search needs
+
 loop-holds : tie.Need-loop-holds Inv-loop μ-loop
 loop-holds c = search needs
 
 payload-byte-requires : tie.Need-payload-byte-requires Inv-loop μ-loop
 payload-byte-requires c κs = search needs
 
-cast-out-5 : tie.Need-cast-out-5 Inv-loop μ-loop
-cast-out-5 c = search needs
+cast-out-6 : tie.Need-cast-out-6 Inv-loop μ-loop
+cast-out-6 c = search needs
 
 add-out : tie.Need-add-out Inv-loop μ-loop
 add-out c = search needs
 
-element-write-out-8 : tie.Need-element-write-out-8 Inv-loop μ-loop
-element-write-out-8 c = search needs
+element-write-out-9 : tie.Need-element-write-out-9 Inv-loop μ-loop
+element-write-out-9 c = search needs
 
 add-k : tie.Need-add-k Inv-loop μ-loop
 add-k c = search needs
@@ -86,11 +92,13 @@ put-packet-spec =
     cast-out-4
     element-write-out-6
     element-write-out-7
+    cast-out-5
+    element-write-out-8
     loop-holds
     payload-byte-requires
-    cast-out-5
+    cast-out-6
     add-out
-    element-write-out-8
+    element-write-out-9
     add-k
     loop-less
     loop-again

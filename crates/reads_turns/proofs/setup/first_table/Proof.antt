@@ -4,10 +4,10 @@ use Rattle.reads_turns.proofs.setup.first_table.Statement.{statement}
 use Rattle.reads_turns.proofs.setup.first_table.Tie as tie
 
 abbrev Inv-loop : tie.InvT-loop
-Inv-loop others t₀ i₀ t i = i ≤ others
+Inv-loop others tag t₀ i₀ t i = i ≤ others
 
 abbrev μ-loop : tie.MeasureT-loop
-μ-loop others t₀ i₀ t i = others - i
+μ-loop others tag t₀ i₀ t i = others - i
 
 make-requires : tie.Need-make-requires Inv-loop μ-loop
 make-requires c κs = search needs
@@ -36,17 +36,17 @@ add-request-2 c = search needs
 request-requires : tie.Need-request-requires Inv-loop μ-loop
 request-requires c κs = search needs
 
-cast-t17 : tie.Need-cast-t17 Inv-loop μ-loop
-cast-t17 c = search needs
+add-put-state : tie.Need-add-put-state Inv-loop μ-loop
+add-put-state c = search needs
 
-add-t18 : tie.Need-add-t18 Inv-loop μ-loop
-add-t18 c = search needs
+add-put-state-2 : tie.Need-add-put-state-2 Inv-loop μ-loop
+add-put-state-2 c = search needs
 
-mul-t19 : tie.Need-mul-t19 Inv-loop μ-loop
-mul-t19 c = search needs
+cast-put-state : tie.Need-cast-put-state Inv-loop μ-loop
+cast-put-state c = search needs
 
-element-set-from-t : tie.Need-element-set-from-t Inv-loop μ-loop
-element-set-from-t c = search needs
+put-state-requires : tie.Need-put-state-requires Inv-loop μ-loop
+put-state-requires c κs = search needs
 
 add-i : tie.Need-add-i Inv-loop μ-loop
 add-i c = search needs
@@ -75,10 +75,10 @@ first-table-spec =
     mul-request-2
     add-request-2
     request-requires
-    cast-t17
-    add-t18
-    mul-t19
-    element-set-from-t
+    add-put-state
+    add-put-state-2
+    cast-put-state
+    put-state-requires
     add-i
     loop-less
     loop-again

@@ -1,0 +1,26 @@
+-- What the exported calls are lent and answer.
+use Prim.Native.Nat.{ℕ, _%_, _^_}
+use mathlib.Core.List.{List}
+use lib.ListN.{getD}
+use Rattle.read_rules.specs.declared.request.ReadRequest.{ReadRequest}
+use Rattle.read_rules.specs.declared.continuation.Origin.{Origin}
+use Rattle.read_words.specs.Words.{readOf}
+use Rattle.read_answers.specs.declared.TakeAnswer.{TakeAnswer}
+use Rattle.read_answers.specs.declared.TakeAnswer.the-variants.{More, Done, Failed, Poisoned, Unread, Refused}
+
+-- MPS, MRRS, RCB and, in its low 16 bits, the requester ID
+unfoldable pub originIn : List ℕ → Origin
+originIn from = record { settings = record { mps = getD from 0 0; mrrs = getD from 1 0; rcb = getD from 2 0 }; requester = getD from 3 0 % 2 ^ 16 }
+
+-- a request in the form of a tag's words; doublewords taken are not looked at
+unfoldable pub requestIn : List ℕ → ReadRequest
+requestIn ws = readOf (getD ws 0 0) (getD ws 1 0) (getD ws 2 0) (getD ws 3 0) .request
+
+-- 0 is Done alone: a turn takes its read whole
+abbrev pub doneNumber : TakeAnswer → ℕ
+doneNumber More = 255
+doneNumber Done = 0
+doneNumber (Failed status) = 255
+doneNumber Poisoned = 255
+doneNumber (Unread r) = r .number
+doneNumber (Refused n) = n

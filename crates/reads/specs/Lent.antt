@@ -1,0 +1,20 @@
+-- What a core leaves, as the call whose core it is leaves it: the table from the set and the words that were lent, and the answer.
+use Prim.Native.Nat.{ℕ}
+use mathlib.Core.List.{List}
+use Rattle.read_rules.specs.declared.continuation.Origin.{Origin}
+use Rattle.read_answers.specs.declared.TakeAnswer.{TakeAnswer}
+use Rattle.reads.specs.declared.answer.OpenAnswer.{OpenAnswer}
+use Rattle.reads.specs.declared.answer.WithdrawAnswer.{WithdrawAnswer}
+use Rattle.reads.specs.declared.table.Opening.{Opening}
+use Rattle.reads.specs.declared.table.Taking.{Taking}
+use Rattle.reads.specs.declared.table.Withdrawal.{Withdrawal}
+use Rattle.reads.specs.Tables.{tableOf}
+
+abbrev pub openingOf : Origin → List ℕ → List ℕ → OpenAnswer → Opening
+openingOf o opened words a = record { table = tableOf o opened words; answer = a }
+
+abbrev pub takingOf : Origin → List ℕ → List ℕ → TakeAnswer → Taking
+takingOf o opened words a = record { table = tableOf o opened words; answer = a }
+
+abbrev pub withdrawalOf : Origin → List ℕ → List ℕ → WithdrawAnswer → Withdrawal
+withdrawalOf o opened words a = record { table = tableOf o opened words; answer = a }

@@ -1,0 +1,26 @@
+-- A free tag has one form in every table reached from a new one: such a table is the new one with its records put in, so that two which have the same
+-- records are the same table.
+use Prim.Native.Nat.{ℕ, zero, suc, _<_}
+use mathlib.Core.Path.{_≡_}
+use mathlib.Core.Bool.{true}
+use mathlib.Core.List.{List}
+use Rattle.tlp.specs.Settings.{settingsListed}
+use Rattle.read_rules.specs.declared.continuation.Origin.{Origin}
+use Rattle.reads.specs.declared.table.Table.{Table}
+use Rattle.reads.specs.Tables.{tagLimit, newTable, withState}
+use Rattle.reads_demands.specs.History.{Call, Records, recordOf, answersOf}
+use Rattle.reads_demands.specs.Demand3.{run}
+
+-- a new table with the records of the tags below n put in
+unfoldable pub holding : Origin → ℕ → Records → Table
+holding o zero records = newTable o
+holding o (suc n) records = withState (holding o n records) n (records n)
+
+-- the theorem: the table after a list of calls is made of the records by the calls alone
+abbrev pub OneForm : Type 0
+OneForm = (o : Origin) (cs : List Call) → settingsListed (o .settings) ≡ true → run (newTable o) cs ≡ holding o (tagLimit (o .settings)) (recordOf (answersOf o cs))
+
+-- and so: lists of calls that leave the same records leave the same table
+abbrev pub SameRecords : Type 0
+SameRecords = (o : Origin) (cs ds : List Call) → settingsListed (o .settings) ≡ true
+    → ((u : ℕ) → u < tagLimit (o .settings) → recordOf (answersOf o cs) u ≡ recordOf (answersOf o ds) u) → run (newTable o) cs ≡ run (newTable o) ds
