@@ -1,7 +1,7 @@
 -- What the calls are made of. Inner functions state these, and no promise does: what is promised is openCall, takeCall, withdrawCall and owedCall.
 use Prim.Native.Nat.{ℕ, zero, suc}
 use mathlib.Core.Bool.{Bool, true, false, not}
-use mathlib.Core.List.{List, [], _∷_, _++_}
+use mathlib.Core.List.{List, _∷_, _++_}
 use lib.Dec.{leb}
 use lib.ListN.{length}
 use Rattle.bits.specs.Choice.{pick}
