@@ -2,13 +2,14 @@
 """Measures the proved table beside plain C ones that do the same checks (reads_plain.c, cc -O2).
 
 The calls are repeated inside programs that read the same lines and print the same.  Plain C keeps its
-reads in slots, or in rows beside a set of tags (reads_turns.c).  The proved table is called by value and
-in place, each in a program of its own, so that the core has one caller and is compiled into it
-(crates/turns_by_value, crates/turns_in_place), and both in one, so that it stands apart
-(crates/turns_both_ways); the core alone is called from C over what it is lent (reads_lent.c).  Each is
-timed as a process with an empty run subtracted, all of them in turn in every round.  A turn opens a read
-and takes it whole, or withdraws it.  Printed are medians over the rounds: times for one of plain C's,
-what one more open read costs a scan, and how a turn grows with the reads open and with the turns before.
+reads in slots, scanned by index or by pointer, or in rows beside a set of tags (reads_turns.c).  The
+proved table is called by value and in place, each in a program of its own, so that the core has one
+caller and is compiled into it (crates/turns_by_value, crates/turns_in_place), and both in one, so that
+it stands apart (crates/turns_both_ways); the core alone is called from C over what it is lent
+(reads_lent.c).  Each is timed as a process with an empty run subtracted, all of them in turn in every
+round.  A turn opens a read and takes it whole, or withdraws it.  Printed are medians over the rounds:
+times for one of plain C's, what one more open read costs a scan, and how a turn grows with the reads
+open and with the turns before.
 
     host/bench/reads.py [ROUNDS] [--beside TREE]
 
@@ -43,7 +44,10 @@ CASES = (("open, withdraw", "withdraw", 64), ("open, take 64 bytes", "take", 64)
 
 # What each table is for one of, and its columns: a program and its aim.
 OF_SLOTS = ("256 slots", {"by value": 1.0, "in place": 0.9, "by value, apart": 1.1, "in place, apart": 1.1})
-OF_SET = ("set", {"256 slots": None, "in place": None, "by value": None, "core lent": 1.3})
+OF_POINTER = ("256 by pointer", {"by value": None, "in place": None, "by value, apart": None,
+                                 "in place, apart": None})
+OF_SET = ("set", {"256 slots": None, "256 by pointer": None, "in place": None, "by value": None,
+                  "core lent": 1.3})
 OF_32 = ("32 slots", {"in place": None, "by value": None, "core lent": None, "older in place": None,
                       "older by value": None})
 
@@ -91,6 +95,7 @@ def build(folder):
     proved = ROOT / "target" / "bin"
     return {
         "256 slots": compiled(folder / "256 slots", "-DPLAIN_SLOTS=256", *PLAIN),
+        "256 by pointer": compiled(folder / "256 by pointer", "-DPLAIN_BY_POINTER", *PLAIN),
         "set": compiled(folder / "set", "-DPLAIN_SET", *PLAIN),
         "core lent": compiled(folder / "core lent", BENCH / "reads_lent.c",
                               ROOT / "target" / "staticlib" / "libbench_lent.a"),
@@ -203,7 +208,9 @@ def main(count, beside):
         bench = Bench(programs, count)
         print("medians of %d rounds" % count, flush=True)
         measured = bench.measured()
-        missed = print_table(measured, *OF_SLOTS) + print_table(measured, *OF_SET)
+        missed = print_table(measured, *OF_SLOTS)
+        print_table(measured, *OF_POINTER)
+        missed += print_table(measured, *OF_SET)
         if beside:
             print_table(measured, *OF_32)
         missed += print_scan(measured)

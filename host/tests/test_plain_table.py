@@ -25,7 +25,8 @@ from checks import require
 BENCH = ROOT / "host" / "bench"
 SOURCES = (BENCH / "reads_plain.c", BENCH / "packet_plain.c")
 FLAGS = ("-std=c11", "-O2", "-Wall", "-Wextra", "-Wpedantic", "-Wconversion", "-Wshadow", "-Werror")
-FORMS = {"256 slots": "-DPLAIN_SLOTS=256", "32 slots": "-DPLAIN_SLOTS=32", "a set": "-DPLAIN_SET"}
+FORMS = {"256 slots": "-DPLAIN_SLOTS=256", "32 slots": "-DPLAIN_SLOTS=32",
+         "256 slots by pointer": "-DPLAIN_BY_POINTER", "a set": "-DPLAIN_SET"}
 OUTCOMES = ("code", "more", "done", "failed", "poisoned")    # plain_outcome, in its order
 
 

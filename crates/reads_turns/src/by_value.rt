@@ -1,43 +1,9 @@
-// Turns by value: each call is given the table as the last one handed it back.
+// Turns by value: each call is given the table as the last one handed it back. Both kinds of turn are in one loop, as in place: a function between
+// the loop and the calls would copy the table.
 use crate::code::take_turn_code;
 use crate::code::withdraw_turn_code;
 use read_rules::request::ReadRequest;
-use reads::answer::OpenAnswer;
 use reads::table::Table;
-
-// What a turn leaves: the table, and the number kept over the turns.
-struct Turned {
-    table: Table,
-    code: u32,
-}
-
-// The second call of a turn; a is the first one's answer.
-fn end_turn(
-    takes: bool,
-    t: Table,
-    code: u32,
-    a: OpenAnswer,
-    bytes: &[u8],
-    store: &mut [u8],
-    tag: u32,
-) -> Turned {
-    if takes {
-        let b = t.take(bytes, store);
-        let u = b.table;
-        let x = b.answer;
-        return Turned {
-            table: u,
-            code: take_turn_code(code, a, x),
-        };
-    }
-    let b = t.withdraw(tag);
-    let u = b.table;
-    let x = b.answer;
-    Turned {
-        table: u,
-        code: withdraw_turn_code(code, a, x),
-    }
-}
 
 pub(crate) fn run_turns(
     t: Table,
@@ -56,11 +22,19 @@ pub(crate) fn run_turns(
     while i < turns {
         i += 1;
         let a = u.open(q, tag, room, out);
-        let v = a.table;
         let x = a.answer;
-        let n = end_turn(takes, v, code, x, bytes, store, tag);
-        u = n.table;
-        code = n.code;
+        let v = a.table;
+        if takes {
+            let b = v.take(bytes, store);
+            let y = b.answer;
+            code = take_turn_code(code, x, y);
+            u = b.table;
+        } else {
+            let b = v.withdraw(tag);
+            let y = b.answer;
+            code = withdraw_turn_code(code, x, y);
+            u = b.table;
+        }
     }
     code
 }

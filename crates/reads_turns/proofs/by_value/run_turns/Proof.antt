@@ -20,14 +20,29 @@ add-i c = search needs
 open-requires : tie.Need-open-requires Inv-loop μ-loop
 open-requires c κs = search needs
 
-end-turn-requires : tie.Need-end-turn-requires Inv-loop μ-loop
-end-turn-requires c κs = search needs
+take-requires : tie.Need-take-requires Inv-loop μ-loop
+take-requires c κs = search needs
+
+take-turn-code-requires : tie.Need-take-turn-code-requires Inv-loop μ-loop
+take-turn-code-requires c κs = search needs
 
 loop-less : tie.Need-loop-less Inv-loop μ-loop
 loop-less c = search needs
 
 loop-again : tie.Need-loop-again Inv-loop μ-loop
 loop-again c = search needs
+
+withdraw-requires : tie.Need-withdraw-requires Inv-loop μ-loop
+withdraw-requires c κs = search needs
+
+withdraw-turn-code-requires : tie.Need-withdraw-turn-code-requires Inv-loop μ-loop
+withdraw-turn-code-requires c κs = search needs
+
+loop-less-2 : tie.Need-loop-less-2 Inv-loop μ-loop
+loop-less-2 c = search needs
+
+loop-again-2 : tie.Need-loop-again-2 Inv-loop μ-loop
+loop-again-2 c = search needs
 
 same-length : tie.Need-same-length Inv-loop μ-loop
 same-length c = search needs
@@ -47,9 +62,14 @@ run-turns-spec =
     loop-holds
     add-i
     open-requires
-    end-turn-requires
+    take-requires
+    take-turn-code-requires
     loop-less
     loop-again
+    withdraw-requires
+    withdraw-turn-code-requires
+    loop-less-2
+    loop-again-2
     same-length
     same-length-2
     returns)
