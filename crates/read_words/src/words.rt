@@ -4,7 +4,6 @@ use byte_enables::Access;
 use read_rules::request::ReadRequest;
 use read_rules::validity::Read;
 ghost use mathlib.Core.Path.{_≡_};
-ghost use Prim.Native.Nat.{_<_};
 ghost use Rattle.read_words.specs.Words.{sizesOf, marksOf, readOf, readAt, putWords, putRead, clearRead};
 
 pub type Words = [u64; 4 * CAPACITY];
