@@ -163,6 +163,18 @@ module _ (rest : ℕ) (words : List ℕ) (from : ℕ) (h : rest ≡ 0 → ⊥) (
 
 pub ruleset turn-laws = (valid-end, shares-end, owed-end, rest-less, rest-fits, tag-fits, valid-turn, valid-fails, shares-turn, shares-found, owed-turn, owed-fits)
 
+-- ---- a scan that may stop: what the words up to j have given, nothing that is joined to it changes
+
+stopped : {M : Type 0} (f : ℕ → M) (join : M → M → M) (below : ℕ → (ℕ → M) → M)
+    → ((f h : ℕ → M) (a n : ℕ) → ((b : ℕ) → b < n → h b ≡ f (a + b)) → below (a + n) f ≡ join (below a f) (below n h))
+    → (z : M) → ((m : M) → join z m ≡ z)
+    → (j : ℕ) → j < capacity / 64 → below (64 * (j + 1)) f ≡ z → below (64 * (capacity / 64)) f ≡ z
+stopped f join below parts z stays j r e =
+    let there : 64 * (j + 1) + (64 * (capacity / 64) - 64 * (j + 1)) ≡ 64 * (capacity / 64) = omega arith in
+    ap (λ (n : ℕ). below n f) (sym there)
+    ∙ (parts f (λ b. f (64 * (j + 1) + b)) (64 * (j + 1)) (64 * (capacity / 64) - 64 * (j + 1)) (λ b m. refl)
+    ∙ rw e (stays (below (64 * (capacity / 64) - 64 * (j + 1)) (λ b. f (64 * (j + 1) + b)))))
+
 -- ---- word j of the set, cut at the limit
 
 module _ (limit : ℕ) (opened words : List ℕ) where
@@ -237,14 +249,10 @@ module _ (limit : ℕ) (opened words : List ℕ) where
       pub valid-stop : not r ≡ true → false ≡ allBelow limit (validAt s limit opened words)
       valid-stop k = sym (unfold validAt in sym (whole (validState s) allBelow all-ends) ∙ ends-there)
         where
-          there : 64 * (j + 1) + (64 * (capacity / 64) - 64 * (j + 1)) ≡ 64 * (capacity / 64)
-          there = omega arith
-
           ends-there : allBelow (64 * (capacity / 64)) (validAt s limit opened words) ≡ false
           ends-there =
-              ap (λ (n : ℕ). allBelow n (validAt s limit opened words)) (sym there)
-              ∙ (all-parts (validAt s limit opened words) (λ b. validAt s limit opened words (64 * (j + 1) + b)) (64 * (j + 1)) (64 * (capacity / 64) - 64 * (j + 1)) (λ b m. refl)
-              ∙ rw (valid-joined, not-true r k, and-false (allBelow (64 * j) (validAt s limit opened words))))
+              stopped (validAt s limit opened words) _&&_ allBelow all-parts false (λ m. refl) j h
+              (valid-joined ∙ rw (not-true r k) (and-false (allBelow (64 * j) (validAt s limit opened words))))
 
     module _ (q : ReadRequest) (r : Bool) (f : r ≡ anyBelow 64 (sharesInWord q w words (64 * j))) where
       shares-joined : anyBelow (64 * (j + 1)) (sharesAt q limit opened words) ≡ (anyBelow (64 * j) (sharesAt q limit opened words) || r)
@@ -257,14 +265,10 @@ module _ (limit : ℕ) (opened words : List ℕ) where
       pub shares-stop : r ≡ true → true ≡ anyBelow limit (sharesAt q limit opened words)
       shares-stop k = sym (unfold sharesAt in sym (whole (sharesIn q) anyBelow any-ends) ∙ ends-there)
         where
-          there : 64 * (j + 1) + (64 * (capacity / 64) - 64 * (j + 1)) ≡ 64 * (capacity / 64)
-          there = omega arith
-
           ends-there : anyBelow (64 * (capacity / 64)) (sharesAt q limit opened words) ≡ true
           ends-there =
-              ap (λ (n : ℕ). anyBelow n (sharesAt q limit opened words)) (sym there)
-              ∙ (any-parts (sharesAt q limit opened words) (λ b. sharesAt q limit opened words (64 * (j + 1) + b)) (64 * (j + 1)) (64 * (capacity / 64) - 64 * (j + 1)) (λ b m. refl)
-              ∙ rw (shares-joined, k, or-true (anyBelow (64 * j) (sharesAt q limit opened words))))
+              stopped (sharesAt q limit opened words) _||_ anyBelow any-parts true (λ m. refl) j h
+              (shares-joined ∙ rw k (or-true (anyBelow (64 * j) (sharesAt q limit opened words))))
 
     module _ (sum m : ℕ) (f : m ≡ sumBelow 64 (owedInWord w words (64 * j))) (i : sum ≡ sumBelow (64 * j) (owedAt limit opened words)) where
       pub owed-next : sum + m ≡ sumBelow (64 * (j + 1)) (owedAt limit opened words)
