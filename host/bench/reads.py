@@ -4,12 +4,13 @@
 The calls are repeated inside programs that read the same lines and print the same.  Plain C keeps its
 reads in slots, scanned by index or by pointer, or in rows beside a set of tags (reads_turns.c).  The
 proved table is called by value and in place, each in a program of its own, so that the core has one
-caller and is compiled into it (crates/turns_by_value, crates/turns_in_place), and both in one, so that
-it stands apart (crates/turns_both_ways); the core alone is called from C over what it is lent
-(reads_lent.c).  Each is timed as a process with an empty run subtracted, all of them in turn in every
-round.  A turn opens a read and takes it whole, or withdraws it.  Printed are medians over the rounds:
-times for one of plain C's, what one more open read costs a scan, and how a turn grows with the reads
-open and with the turns before.
+caller and is compiled into it (crates/turns_by_value, crates/turns_in_place); and by value, in place and
+over what is lent of it, all three ways in one program, so that the cores of open and take have two
+callers each and stand apart (crates/turns_every_way).  The core alone is called from C over what it is
+lent (reads_lent.c).  Each is timed as a process with an empty run subtracted, all of them in turn in
+every round.  A turn opens a read and takes it whole, or withdraws it.  Printed are medians over the
+rounds: times for one of plain C's, what one more open read costs a scan, and how a turn grows with the
+reads open and with the turns before.
 
     host/bench/reads.py [ROUNDS] [--beside TREE]
 
@@ -47,7 +48,7 @@ OF_SLOTS = ("256 slots", {"by value": 1.0, "in place": 0.9, "by value, apart": 1
 OF_POINTER = ("256 by pointer", {"by value": None, "in place": None, "by value, apart": None,
                                  "in place, apart": None})
 OF_SET = ("set", {"256 slots": None, "256 by pointer": None, "in place": None, "by value": None,
-                  "core lent": 1.3})
+                  "core lent": 1.3, "core apart": None})
 OF_32 = ("32 slots", {"in place": None, "by value": None, "core lent": None, "older in place": None,
                       "older by value": None})
 
@@ -89,7 +90,7 @@ def compiled(path, *arguments):
 
 def build(folder):
     """The programs by name."""
-    run_checked(["rt", "check", "turns_by_value", "turns_in_place", "turns_both_ways"],
+    run_checked(["rt", "check", "turns_by_value", "turns_in_place", "turns_every_way"],
                 "the proved programs are not proved or not built")
     run_checked(["rt", "staticlib", "bench_lent"], "the lent core is not proved or not built")
     proved = ROOT / "target" / "bin"
@@ -101,8 +102,9 @@ def build(folder):
                               ROOT / "target" / "staticlib" / "libbench_lent.a"),
         "by value": Program(proved / "turns_by_value"),
         "in place": Program(proved / "turns_in_place"),
-        "by value, apart": Program(proved / "turns_both_ways", "value "),
-        "in place, apart": Program(proved / "turns_both_ways", "place "),
+        "by value, apart": Program(proved / "turns_every_way", "value "),
+        "in place, apart": Program(proved / "turns_every_way", "place "),
+        "core apart": Program(proved / "turns_every_way", "lent "),
     }
 
 

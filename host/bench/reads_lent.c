@@ -11,9 +11,10 @@
 
 /* What crates/bench_lent exports: document 01's numbers, 0 for accepted. */
 
-/* A request has the form of a tag's words. */
+/* A request is four words, and so has the size of these. */
+_Static_assert(sizeof(struct plain_request) == 32, "a request is four words");
 uint32_t bench_open(const uint32_t (*from)[4], uint64_t (*opened)[PLAIN_CAPACITY / 64],
-                    uint64_t (*words)[4 * PLAIN_CAPACITY], const uint64_t (*request)[4], uint32_t tag,
+                    uint64_t (*words)[4 * PLAIN_CAPACITY], const struct plain_request *request, uint32_t tag,
                     const uint8_t *store, size_t store_length, uint8_t *out, size_t out_length);
 
 /* 0 for Done, 255 for another answer without a number. */
@@ -40,10 +41,7 @@ inline uint32_t plain_open(struct plain_table *table, const struct plain_request
                            size_t store_length, uint8_t *out, size_t out_length)
 {
     static const uint8_t room[PLAIN_STORE_MOST];
-    const uint64_t words[4] = {request->address, request->start, request->length,
-                               (uint64_t)request->attributes << 24 | (uint64_t)request->traffic_class << 16 |
-                                   (uint64_t)request->last << 8 | request->first};
-    return bench_open(&table->reads.from, &table->reads.opened, &table->reads.words, &words, tag, room,
+    return bench_open(&table->reads.from, &table->reads.opened, &table->reads.words, request, tag, room,
                       store_length, out, out_length);
 }
 

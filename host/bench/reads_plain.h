@@ -19,11 +19,16 @@
 /* There is room for more tags than may be opened. */
 enum { PLAIN_TAGS = 32, PLAIN_CAPACITY = 256, PLAIN_STORE_MOST = 65536 };
 
-/* What open is asked for; the window starts at byte `start` of the store. */
+/* What open is asked for; the window starts at byte `start` of the store.  The proved core is lent it as
+ * four words: address; start; length; enables, traffic class and attributes from the lowest byte up.
+ */
 struct plain_request {
     uint64_t address;
     uint64_t start;
     uint32_t length;
+#ifdef PLAIN_LENT
+    uint32_t none;
+#endif
     uint8_t first, last;
     uint8_t traffic_class, attributes;
 };

@@ -22,7 +22,7 @@ use Rattle.read_slots.specs.declared.State.the-variants.{Free, Open}
 use Rattle.read_slots.specs.Slots.{isOpen}
 use Rattle.read_answers.specs.declared.TakeAnswer.{TakeAnswer}
 use Rattle.read_answers.specs.declared.TakeAnswer.the-variants.{More, Done, Failed, Poisoned, Refused}
-use Rattle.read_answers.specs.Takes.{readIn, pieceRows, ownRows, outcome, numberOr, packetAnswer}
+use Rattle.read_answers.specs.Takes.{readIn, pieceRows, ownRows, outcome, numberOr, pieceAnswer, packetAnswer}
 
 pub read-case : (x v : State) (r : Read) → x ≡ v → r ≡ readIn v → r ≡ readIn x
 read-case x v r e q = rw e q
@@ -93,31 +93,33 @@ module _ (r : Read) (c : Piece) (y : Bool) (e : y ≡ succeeds c) where
 
 pub ruleset outcome-laws = (outcome-failed, outcome-poisoned, outcome-done, outcome-more)
 
+-- ---- the answer to a completion
+
+module _ (o : Origin) (x : State) (c : Piece) (room n : ℕ) (e : n ≡ first (pieceRows o x c room)) where
+  pub answer-number : (n ≡ 0 → ⊥) → Refused n ≡ pieceAnswer o x c room
+  unfolding pieceAnswer
+  answer-number k = rw (← e) (go n k)
+    where
+      go : (m : ℕ) → (m ≡ 0 → ⊥) → Refused m ≡ numberOr m (outcome (readIn x) c)
+      go zero z = absurd (z refl)
+      go (suc m) z = refl
+
+  pub answer-outcome : (r : Read) (a : TakeAnswer) → n ≡ 0 → r ≡ readIn x → a ≡ outcome r c → a ≡ pieceAnswer o x c room
+  unfolding pieceAnswer
+  answer-outcome r a k l m = rw (← e, k, ← l) m
+
+pub ruleset answer-laws = (answer-number, answer-outcome)
+
 -- ---- the answer to a packet
 
-module _ (o : Origin) (x : State) (p : Packet) (room : ℕ) (b : Bool) (e : b ≡ isCompletion p) where
-  pub answer-other : not b ≡ true → Refused 29 ≡ packetAnswer o x p room
+module _ (o : Origin) (x : State) (p : Packet) (room : ℕ) where
+  pub answer-other : isCompletion p ≡ false → packetAnswer o x p room ≡ Refused 29
   unfolding packetAnswer first
-  answer-other h = rw (← e, h)
+  answer-other h = rw h
 
-  module _ (h : not b ≡ false) (c : Piece) (f : c ≡ pieceOf p) (n : ℕ) (g : n ≡ first (pieceRows o x c room)) where
-    own : first (ownRows o x p room) ≡ n
-    unfolding first
-    own = rw (← e, h, ← f) (sym g)
-
-    pub answer-number : (n ≡ 0 → ⊥) → Refused n ≡ packetAnswer o x p room
-    unfolding packetAnswer
-    answer-number k = rw own (go n k)
-      where
-        go : (m : ℕ) → (m ≡ 0 → ⊥) → Refused m ≡ numberOr m (outcome (readIn x) (pieceOf p))
-        go zero z = absurd (z refl)
-        go (suc m) z = refl
-
-    pub answer-outcome : (r : Read) (a : TakeAnswer) → n ≡ 0 → r ≡ readIn x → a ≡ outcome r c → a ≡ packetAnswer o x p room
-    unfolding packetAnswer
-    answer-outcome r a k l m = rw (own, k, ← l, ← f) m
-
-pub ruleset answer-laws = (answer-other, answer-number, answer-outcome)
+  pub answer-piece : isCompletion p ≡ true → packetAnswer o x p room ≡ pieceAnswer o x (pieceOf p) room
+  unfolding packetAnswer pieceAnswer first
+  answer-piece h = rw h
 
 -- ---- what More asks of the record
 

@@ -58,6 +58,10 @@ abbrev pub numberOr : ℕ → TakeAnswer → TakeAnswer
 numberOr zero x = x
 numberOr (suc n) x = Refused (suc n)
 
--- the answer to a packet that was read; x is the record of its tag
+-- the answer to a completion; x is the record of its tag
+unfoldable pub pieceAnswer : Origin → State → Piece → ℕ → TakeAnswer
+pieceAnswer o x c room = numberOr (first (pieceRows o x c room)) (outcome (readIn x) c)
+
+-- the answer to a packet that was read
 unfoldable pub packetAnswer : Origin → State → Packet → ℕ → TakeAnswer
 packetAnswer o x p room = numberOr (first (ownRows o x p room)) (outcome (readIn x) (pieceOf p))

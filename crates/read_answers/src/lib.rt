@@ -7,19 +7,16 @@ use read_rules::continuation::is_legal;
 use read_rules::continuation::reported_status;
 use read_rules::continuation::status_bad;
 use read_rules::piece::Piece;
-use read_rules::piece::is_completion;
-use read_rules::piece::piece_of;
 use read_rules::request::ReadRequest;
 use read_rules::validity::Read;
 use read_rules::validity::owed_of;
 use read_rules::window::holds_window;
 use read_slots::State;
 use read_slots::is_open;
-use tlp::packet::Packet;
 use tlp::refusal::Refusal;
 ghost use mathlib.Core.Path.{_≡_};
 ghost use Rattle.tlp.specs.Rows.{first};
-ghost use Rattle.read_answers.specs.Takes.{readIn, pieceRows, outcome, packetAnswer};
+ghost use Rattle.read_answers.specs.Takes.{readIn, pieceRows, outcome, pieceAnswer};
 
 // Unread is the packet reader's own refusal, passed on whole.
 pub enum TakeAnswer {
@@ -100,14 +97,10 @@ fn outcome_of(r: Read, c: Piece) -> TakeAnswer
     TakeAnswer::More
 }
 
-// The answer to a packet that was read.
-pub fn packet_answer(o: Origin, x: State, p: Packet, room: u64) -> TakeAnswer
-    ensures { λ a. ⌜ a ≡ packetAnswer o x p room ⌝ }
+// The answer to a completion that was read.
+pub fn piece_answer(o: Origin, x: State, c: Piece, room: u64) -> TakeAnswer
+    ensures { λ a. ⌜ a ≡ pieceAnswer o x c room ⌝ }
 {
-    if !is_completion(p) {
-        return TakeAnswer::Refused(29);
-    }
-    let c = piece_of(p);
     let n = piece_number(o, x, c, room);
     if n != 0 {
         return TakeAnswer::Refused(n);

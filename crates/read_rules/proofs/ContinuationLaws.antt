@@ -24,34 +24,30 @@ module _ (a : Access) (p : ℕ) where
   off-later h = rw (ne-eqb p 0 h)
 
   -- off counts at the read's start alone
-  count : 4 * (a .length - p) - (pick (eqb p 0) (off a) 0 + trail a) ≡ byteCountAt a p
-  unfolding byteCountAt total
-  count = go (eqb p 0) refl
-    where
-      go : (b : Bool) → eqb p 0 ≡ b → 4 * (a .length - p) - (pick b (off a) 0 + trail a) ≡ pick b (4 * a .length - off a - trail a) (4 * (a .length - p) - trail a)
-      go true e = let z = eqb-true p 0 e in omega arith
-      go false e = omega arith
+  module _ (o : ℕ) (f : o ≡ pick (eqb p 0) (off a) 0) where
+    count-at : 4 * (a .length - p) - (o + trail a) ≡ byteCountAt a p
+    unfolding byteCountAt total
+    count-at = rw f (go (eqb p 0) refl)
+      where
+        go : (b : Bool) → eqb p 0 ≡ b → 4 * (a .length - p) - (pick b (off a) 0 + trail a) ≡ pick b (4 * a .length - off a - trail a) (4 * (a .length - p) - trail a)
+        go true e = let z = eqb-true p 0 e in omega arith
+        go false e = omega arith
 
-  module _ (r o t : ℕ) (e : r ≡ a .length - p) (f : o ≡ pick (eqb p 0) (off a) 0) (g : t ≡ trail a) where
-    pub count-none : 4 * r < o + t → 0 ≡ byteCountAt a p
-    count-none h =
-        let z : 4 * (a .length - p) - (pick (eqb p 0) (off a) 0 + trail a) ≡ 0 = rw (← e, ← f, ← g) (omega arith) in
-        sym z ∙ count
+    lower-at : (a .address + 4 * p + o) % 128 ≡ lowerAddressAt a p
+    unfolding lowerAddressAt
+    lower-at = rw f (go (eqb p 0) refl)
+      where
+        go : (b : Bool) → eqb p 0 ≡ b → (a .address + 4 * p + pick b (off a) 0) % 128 ≡ pick b ((a .address + off a) % 128) ((a .address + 4 * p) % 128)
+        go true e = let z = eqb-true p 0 e in omega arith
+        go false e = omega arith
 
-    pub count-some : 4 * r - (o + t) ≡ byteCountAt a p
-    count-some = rw (e, f, g) count
+    pub count-of : (n : ℕ) → n ≡ 4 * (a .length - p) - (o + trail a) → n ≡ byteCountAt a p
+    count-of n e = e ∙ count-at
 
-  pub lower-at : (o : ℕ) → o ≡ pick (eqb p 0) (off a) 0 → (a .address % 128 + 4 * p + o) % 128 ≡ lowerAddressAt a p
-  unfolding lowerAddressAt
-  lower-at o e = rw e (go (eqb p 0) refl)
-    where
-      go : (b : Bool) → eqb p 0 ≡ b → (a .address % 128 + 4 * p + pick b (off a) 0) % 128 ≡ pick b ((a .address + off a) % 128) ((a .address + 4 * p) % 128)
-      go true e = let z = eqb-true p 0 e in omega arith
-      go false e = omega arith
+    pub lower-of : (n : ℕ) → n ≡ (a .address + 4 * p + o) % 128 → n ≡ lowerAddressAt a p
+    lower-of n e = e ∙ lower-at
 
 pub ruleset off-laws = (off-first, off-later)
-
-pub ruleset count-laws = (count-none, count-some)
 
 -- ---- the boundary
 
@@ -109,17 +105,21 @@ module _ (o : Origin) (r : Read) (c : Piece) (x : Bool) (e : x ≡ cutAllowed (o
   unfolding legal
   legal-cut h = rw (← e, not-true x h)
 
-  module _ (h : not x ≡ false) (n : ℕ) (f : n ≡ byteCountAt (r .request .access) (r .taken)) where
+  module _ (h : not x ≡ false) (l n : ℕ) (d : l ≡ pick (eqb (r .taken) 0) (off (r .request .access)) 0)
+      (f : n ≡ 4 * (r .request .access .length - r .taken) - (l + trail (r .request .access))) where
     yes : x ≡ true
     yes = not-false x h
 
+    count : n ≡ byteCountAt (r .request .access) (r .taken)
+    count = count-of (r .request .access) (r .taken) l d n f
+
     pub legal-count : (c .header .«byte_count» ≡ n → ⊥) → false ≡ legal o r c
     unfolding legal
-    legal-count k = rw (← e, yes, ← f, ne-eqb (c .header .«byte_count») n k)
+    legal-count k = rw (← e, yes, ← count, ne-eqb (c .header .«byte_count») n k)
 
-    pub legal-lower : (m : ℕ) → c .header .«byte_count» ≡ n → m ≡ lowerAddressAt (r .request .access) (r .taken) → eqb (c .header .«lower_address») m ≡ legal o r c
+    pub legal-lower : (m : ℕ) → c .header .«byte_count» ≡ n → m ≡ (r .request .access .address + 4 * r .taken + l) % 128 → eqb (c .header .«lower_address») m ≡ legal o r c
     unfolding legal
-    legal-lower m k g = rw (← e, yes, ← f, eq-eqb (c .header .«byte_count») n k, ← g)
+    legal-lower m k g = rw (← e, yes, ← count, eq-eqb (c .header .«byte_count») n k, ← lower-at (r .request .access) (r .taken) l d, g)
 
 pub ruleset legal-laws = (legal-cut, legal-count, legal-lower)
 

@@ -10,7 +10,7 @@ ghost use mathlib.Core.Bool.{_||_, _&&_};
 ghost use Prim.Native.Nat.{_+_, _*_, _%_, _^_, _<_, _-_};
 ghost use lib.Dec.{eqb, leb};
 ghost use Rattle.bits.specs.Choice.{pick};
-ghost use Rattle.byte_enables.specs.Enables.{off};
+ghost use Rattle.byte_enables.specs.Enables.{off, trail};
 ghost use Rattle.read_rules.specs.Continuations.{byteCountAt, lowerAddressAt, cutAllowed, legal, succeeds, statusBad, differs, reported};
 
 // What a table is made from; fixed for its life.
@@ -39,23 +39,37 @@ fn off_at(a: Access, p: u32) -> u32
     0
 }
 
-// The Byte Count that a piece at doubleword p must have.
-pub fn byte_count_at(a: Access, p: u32) -> u64
-    ensures { λ n. ⌜ n ≡ byteCountAt a p ⌝ }
+// The Byte Count of a piece at doubleword p, where off bytes stand before the first enabled one.
+fn count_from(a: Access, p: u32, off: u32) -> u64
+    ensures { λ n. ⌜ n ≡ 4 * (a .length - p) - (off + trail a) ⌝ }
 {
     let all = 4 * rest_of(a, p) as u64;
-    let out = off_at(a, p) as u64 + trail_of(a) as u64;
+    let out = off as u64 + trail_of(a) as u64;
     if all < out {
         return 0;
     }
     all - out
 }
 
-// The Lower Address that a piece at doubleword p must have. An address may be the last of 64 bits, so it is reduced before it is added to.
+// The Lower Address likewise. An address may be the last of 64 bits, so it is reduced before it is added to.
+fn lower_from(a: Access, p: u32, off: u32) -> u64
+    ensures { λ n. ⌜ n ≡ (a .address + 4 * p + off) % 128 ⌝ }
+{
+    (a.address % 128 + 4 * p as u64 + off as u64) % 128
+}
+
+// The Byte Count that a piece at doubleword p must have.
+pub fn byte_count_at(a: Access, p: u32) -> u64
+    ensures { λ n. ⌜ n ≡ byteCountAt a p ⌝ }
+{
+    count_from(a, p, off_at(a, p))
+}
+
+// The Lower Address that a piece at doubleword p must have.
 pub fn lower_address_at(a: Access, p: u32) -> u64
     ensures { λ n. ⌜ n ≡ lowerAddressAt a p ⌝ }
 {
-    (a.address % 128 + 4 * p as u64 + off_at(a, p) as u64) % 128
+    lower_from(a, p, off_at(a, p))
 }
 
 // Whether address + bytes is a multiple of m.
@@ -102,7 +116,7 @@ pub fn cut_allowed(rcb: u32, a: Access, p: u32, n: u32) -> bool
     on_boundary(rcb, a.address, 4 * p as u64 + 4 * n as u64)
 }
 
-// Whether a completion legally continues a read.
+// Whether a completion legally continues a read. What stands before the first enabled byte is asked once, for both fields.
 pub fn is_legal(o: Origin, r: Read, c: Piece) -> bool
     ensures { λ b. ⌜ b ≡ legal o r c ⌝ }
 {
@@ -110,13 +124,15 @@ pub fn is_legal(o: Origin, r: Read, c: Piece) -> bool
     let q = r.request;
     let a = q.access;
     let h = c.header;
-    if !cut_allowed(s.rcb, a, r.taken, c.length) {
+    let p = r.taken;
+    let off = off_at(a, p);
+    if !cut_allowed(s.rcb, a, p, c.length) {
         return false;
     }
-    if h.byte_count as u64 != byte_count_at(a, r.taken) {
+    if h.byte_count as u64 != count_from(a, p, off) {
         return false;
     }
-    h.lower_address as u64 == lower_address_at(a, r.taken)
+    h.lower_address as u64 == lower_from(a, p, off)
 }
 
 // Whether the status is 000.

@@ -5,11 +5,9 @@ use tlp::packet::Packet;
 use tlp::packet::access_of;
 use tlp::packet::id_of;
 use tlp::packet::type_of;
-use tlp::packet_type::Family;
-use tlp::packet_type::family_of;
 use tlp::packet_type::has_data;
 ghost use mathlib.Core.Path.{_≡_};
-ghost use Rattle.read_rules.specs.Pieces.{ofCompletions, isCompletion, noHeader, headerIn, pieceOf};
+ghost use Rattle.read_rules.specs.Pieces.{noHeader, headerIn, pieceOf};
 
 // What a packet says as a completion; with_data tells CplD from Cpl, and a Cpl has length 0.
 pub struct Piece {
@@ -20,26 +18,6 @@ pub struct Piece {
     pub with_data: bool,
     pub length: u32,
     pub header: CompletionHeader,
-}
-
-fn of_completions(f: Family) -> bool
-    ensures { λ r. ⌜ r ≡ ofCompletions f ⌝ }
-{
-    match f {
-        Family::Memory => false,
-        Family::Io => false,
-        Family::Config => false,
-        Family::Message => false,
-        Family::Completion => true,
-        Family::Unlisted => false,
-    }
-}
-
-// Whether the packet is a Cpl or a CplD.
-pub fn is_completion(p: Packet) -> bool
-    ensures { λ r. ⌜ r ≡ isCompletion p ⌝ }
-{
-    of_completions(family_of(type_of(p)))
 }
 
 fn no_header() -> CompletionHeader

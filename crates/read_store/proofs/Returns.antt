@@ -4,28 +4,77 @@ use mathlib.Core.Path.{_≡_, refl, sym, _∙_}
 use mathlib.Core.Logic.{_⊎_, inl, inr}
 use mathlib.Core.List.{List, _++_, append-nil}
 use mathlib.Core.Bool.{Bool, true, false}
-use native.Mathlib.Nat.{min-eq-left, min-eq-right}
 use native.Mathlib.Omega.{arith}
 use lib.Dec.{leb}
-use lib.ListN.{length, take, drop, length-append, length-drop, drop-of-length-le}
+use lib.ListN.{length, take, drop, length-append, length-take, length-drop, drop-of-length-le}
 use lib.Seq.{take-all, take-at, drop-at, take-length, drop-length, length-take-le}
 use borrow.Author.Tests.{leb-true, leb-false}
 use Rattle.byte_enables.specs.Enables.{enabled}
 use Rattle.scan.specs.Merges.{merged}
 use Rattle.scan.proofs.MergeLaws.{length-merged, merged-nil, merged-split, merged-whole}
-use Rattle.scan.proofs.MergeSteps.{merged-part}
+use Rattle.scan.proofs.MergeSteps.{merge-full, merged-part}
 use Rattle.read_rules.specs.declared.request.ReadRequest.{ReadRequest}
 use Rattle.read_store.specs.Stores.{stored}
 
+-- what a copy of the first i bytes leaves in a part of i bytes
+copied : (i : ℕ) (ds xs ys : List ℕ) → i ≤ length ds → i ≤ length xs
+    → ys ≡ take (length (take i ds)) (take i ds) ++ drop (length (take i ds)) (take i xs) → ys ≡ take i ds
+copied i ds xs ys h l e =
+    let m : length (take i ds) ≡ i = length-take-le i ds h in
+    let n : length (take i xs) ≡ i = length-take-le i xs l in
+    e ∙ rw (take-length (take i ds), m, drop-of-length-le (take i xs) {i = i} (omega arith)) (append-nil (take i ds))
+
+module _ (n : ℕ) (ds xs ys : List ℕ) where
+  pub front-copied : n ≤ length ds → n ≤ length xs → ys ≡ take (length (take n ds)) (take n ds) ++ drop (length (take n ds)) (take n xs)
+      → ys ++ drop n xs ≡ take n ds ++ drop n xs
+  front-copied h l e = rw (copied n ds xs ys h l e)
+
+-- by way of a block bs, in which the first copy left zs
+module _ (n : ℕ) (ds bs zs : List ℕ) (e : zs ≡ take (length (take n ds)) (take n ds) ++ drop (length (take n ds)) (take n bs)) (h : n ≤ length ds) (b : n ≤ length bs) where
+  left : zs ≡ take n ds
+  left = copied n ds bs zs h b e
+
+  left-long : length zs ≡ n
+  left-long = rw left (length-take-le n ds h)
+
+  pub block-holds : n ≤ length (zs ++ drop n bs)
+  block-holds = let z = left-long in rw length-append (omega arith)
+
+  pub front-by-block : (xs ys : List ℕ)
+      → ys ≡ take (length (take n (zs ++ drop n bs))) (take n (zs ++ drop n bs)) ++ drop (length (take n (zs ++ drop n bs))) (take n xs)
+      → n ≤ length xs → ys ++ drop n xs ≡ take n ds ++ drop n xs
+  front-by-block xs ys g l = rw (copied n (zs ++ drop n bs) xs ys block-holds l g, take-at zs (drop n bs) n left-long, left)
+
+-- the lesser of two lengths is one of them
+fits : (m l n : ℕ) → n ≡ min m l → (m ≤ n) ⊎ (l ≤ n)
+fits m l n e = go (leb m l) refl
+  where
+    go : (b : Bool) → leb m l ≡ b → (m ≤ n) ⊎ (l ≤ n)
+    go true x = let y = leb-true m l x in inl (omega arith)
+    go false x = let y = leb-false m l x in inr (omega arith)
+
 module _ (f : ℕ → Bool) (k i : ℕ) (ds xs ys : List ℕ) where
-  -- the first i bytes copied, all of them enabled
-  pub laid-copy : i ≤ length ds → i ≤ length xs → ((j : ℕ) → j < i → f (k + j) ≡ true)
-      → ys ≡ take (length (take i ds)) (take i ds) ++ drop (length (take i ds)) (take i xs) → ys ≡ merged f k (take i ds) (take i xs)
-  laid-copy h l t e =
+  -- the first i bytes, all of them enabled
+  whole : i ≤ length ds → i ≤ length xs → ((j : ℕ) → j < i → f (k + j) ≡ true) → merged f k (take i ds) (take i xs) ≡ take i ds
+  whole h l t =
       let m : length (take i ds) ≡ i = length-take-le i ds h in
       let n : length (take i xs) ≡ i = length-take-le i xs l in
-      e ∙ rw (take-length (take i ds), m, drop-of-length-le (take i xs) {i = i} (omega arith), append-nil (take i ds))
-      (sym (merged-whole f k (take i ds) (take i xs) (omega arith) (λ j b. t j (omega arith))))
+      merged-whole f k (take i ds) (take i xs) (omega arith) (λ j b. t j (omega arith))
+
+  -- these copied
+  pub laid-copy : i ≤ length ds → i ≤ length xs → ((j : ℕ) → j < i → f (k + j) ≡ true)
+      → ys ≡ take (length (take i ds)) (take i ds) ++ drop (length (take i ds)) (take i xs) → ys ≡ merged f k (take i ds) (take i xs)
+  laid-copy h l t e = copied i ds xs ys h l e ∙ sym (whole h l t)
+
+  -- these copied, and no others are left
+  pub laid-front : (r : Bool) → i ≡ min (length ds) (length xs) → r ≡ true → (r ≡ true → (j : ℕ) → j < i → f (k + j) ≡ true)
+      → ys ≡ take i ds ++ drop i xs → ys ≡ merged f k ds xs
+  laid-front r e h t g =
+      let c : merged f k (take i ds) (take i xs) ≡ take i ds = whole (omega arith) (omega arith) (t h) in
+      let m : length (take i xs) ≤ i = simp length-take (omega arith) in
+      let z : length (take i ds) ≡ length (take i xs) = rw (← c) (length-merged f k (take i ds) (take i xs)) in
+      let a : take i ds ≡ merged f k ds (take i xs) = merge-full f k ds (take i xs) (take i ds) i (sym c) z (omega arith) in
+      g ∙ rw a (merged-part f k i ds xs (fits (length ds) (length xs) i e))
 
   -- a part that is lent in two: its first i bytes, then the others
   pub laid-two : (n : ℕ) (zs : List ℕ) → i ≤ n → n ≤ length xs → ys ≡ merged f k (take i ds) (take i xs)
@@ -57,13 +106,6 @@ module _ (q : ReadRequest) (p : ℕ) (ds st : List ℕ) where
   unfolding stored
   stored-part n ys h l z e =
       let k : q .start + 4 * p + n - (q .start + 4 * p) ≡ n = omega arith in
-      rw (e, k, merged-part (enabled (q .access)) (4 * p) n ds (drop (q .start + 4 * p) st) (fits (leb (length ds) (length st - (q .start + 4 * p))) refl))
-    where
-      fits : (b : Bool) → leb (length ds) (length st - (q .start + 4 * p)) ≡ b → (length ds ≤ n) ⊎ (length (drop (q .start + 4 * p) st) ≤ n)
-      fits true x = inl (rw (z, min-eq-left (leb-true (length ds) (length st - (q .start + 4 * p)) x)) (omega arith))
-      fits false x =
-          let y = leb-false (length ds) (length st - (q .start + 4 * p)) x in
-          let w : length st - (q .start + 4 * p) ≤ length ds = omega arith in
-          inr (rw (z, min-eq-right w, length-drop) (omega arith))
+      rw (e, k, merged-part (enabled (q .access)) (4 * p) n ds (drop (q .start + 4 * p) st) (fits (length ds) (length (drop (q .start + 4 * p) st)) n (rw length-drop z)))
 
-pub ruleset stored-laws = (laid-copy, laid-two, stored-past, stored-short, stored-part)
+pub ruleset stored-laws = (laid-copy, laid-front, laid-two, stored-past, stored-short, stored-part)

@@ -1,10 +1,10 @@
 -- Why the bytes from whole_from up to whole_to need no test.
 use Prim.Native.Nat.{ℕ, zero, suc, _+_, _-_, _*_, _/_, _%_, _≤_, _<_}
 use mathlib.Core.Path.{_≡_, refl}
-use mathlib.Core.Bool.{Bool, true, false}
+use mathlib.Core.Bool.{Bool, true, false, false≢true}
 use native.Mathlib.Omega.{arith}
-use lib.Dec.{eqb}
-use borrow.Author.Tests.{eqb-true, lt-leb}
+use lib.Dec.{eqb, leb}
+use borrow.Author.Tests.{eqb-true, leb-true, lt-leb}
 use Rattle.bits.specs.Choice.{pick}
 use Rattle.bits.specs.Field.{bit}
 use Rattle.byte_enables.specs.declared.Access.{Access}
@@ -38,3 +38,13 @@ module _ (a : Access) (from to : ℕ) (f : from < 4 → a .first % 16 ≡ 15) (t
 
   pub whole : (k q w : ℕ) → from ≤ k → q ≡ to - k → w ≤ q → (i : ℕ) → i < w → enabled a (k + i) ≡ true
   whole k q w h e u i l = within (k + i) (omega arith) (omega arith)
+
+module _ (a : Access) (k n : ℕ) where
+  -- where both are 1111, nothing is left out
+  pub whole-all : (q : ℕ) → a .first % 16 ≡ 15 → a .last % 16 ≡ 15 → q ≡ 4 * a .length - k → leb n q ≡ true → (i : ℕ) → i < n → enabled a (k + i) ≡ true
+  whole-all q f l e h = whole a 0 (4 * a .length) (λ _. f) (omega arith, λ _. l) k q n (omega arith) e (leb-true n q h)
+
+  pub whole-unknown : false ≡ true → (i : ℕ) → i < n → enabled a (k + i) ≡ true
+  whole-unknown e i l = absurd (false≢true e)
+
+pub ruleset whole-laws = (whole-all, whole-unknown)

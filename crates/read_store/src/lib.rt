@@ -5,7 +5,9 @@ use byte_enables::enabled_at;
 use read_rules::request::ReadRequest;
 ghost use mathlib.Core.Path.{_≡_};
 ghost use mathlib.Core.Bool.{true};
+ghost use mathlib.Core.List.{_++_};
 ghost use Prim.Native.Nat.{ℕ, _+_, _-_, _*_, _%_, _^_, _<_, _≤_};
+ghost use lib.ListN.{take, drop};
 ghost use Rattle.bits.specs.Choice.{pick};
 ghost use Rattle.byte_enables.specs.Enables.{enabled};
 ghost use Rattle.scan.specs.Merges.{merged};
@@ -88,17 +90,58 @@ fn store_whole(a: Access, k: u64, w: usize, payload: &[u8], part: &mut [u8])
     store_tested(a, k + w as u64, &payload[w..], &mut part[w..]);
 }
 
-// Lays the enabled bytes of a payload, whose first doubleword is the read's doubleword p, over the part of the store that is lent: first
-// the bytes before the run that is enabled whole, then that run and what follows it.
+// Copies the first n bytes. They go by way of a block of their own where it holds them: the compiler then knows that nothing overlaps, and makes one
+// block copy of the two loops.
+fn copy_front(n: usize, src: &[u8], dst: &mut [u8])
+    requires { do ⌜ (n ≤ (← ⟦src.len()⟧)) × (n ≤ (← ⟦dst.len()⟧)) ⌝ }
+    ensures { λ _. ⌜ now (dst .exit) ≡ take n (now (src .entry)) ++ drop n (now (dst .entry)) ⌝ }
+{
+    if 4096 < n {
+        bytes::copy(&src[..n], &mut dst[..n]);
+        return;
+    }
+    let mut block = [0u8; 4096];
+    bytes::copy(&src[..n], &mut block[..n]);
+    bytes::copy(&block[..n], &mut dst[..n]);
+}
+
+// Whether the n bytes from byte k on are all enabled, as the enables of the first and the last doubleword alone show it.
+fn all_whole(a: Access, k: u64, n: usize) -> bool
+    ensures { λ r. ⌜ (r ≡ true → (i : ℕ) → i < n → enabled a (k + i) ≡ true) ⌝ }
+{
+    if a.first % 16 != 0b1111 {
+        return false;
+    }
+    if a.last % 16 != 0b1111 {
+        return false;
+    }
+    n <= past(4 * a.length as u64, k)
+}
+
+// What store_tested does, by runs: first the bytes before the run that is enabled whole, then that run and what follows it. Neither slice is
+// shorter than n.
+fn store_runs(a: Access, k: u64, n: usize, payload: &[u8], part: &mut [u8])
+    requires { do ⌜ (n ≤ (← ⟦payload.len()⟧)) × (n ≤ (← ⟦part.len()⟧)) × (k + (← ⟦payload.len()⟧) < 2 ^ 64) ⌝ }
+    ensures { λ _. ⌜ now (part .exit) ≡ merged (enabled a) k (now (payload .entry)) (now (part .entry)) ⌝ }
+{
+    let h = lesser(past(whole_from(a), k), n);
+    let w = whole_run(a, k + h as u64, n - h);
+    store_tested(a, k, &payload[..h], &mut part[..h]);
+    store_whole(a, k + h as u64, w, &payload[h..], &mut part[h..]);
+}
+
+// Lays the enabled bytes of a payload, whose first doubleword is the read's doubleword p, over the part of the store that is lent. Where all of
+// them are enabled they are copied at once.
 pub fn store_enabled(a: Access, p: u32, payload: &[u8], part: &mut [u8])
     ensures { λ _. ⌜ now (part .exit) ≡ merged (enabled a) (4 * p) (now (payload .entry)) (now (part .entry)) ⌝ }
 {
     let k = 4 * p as u64;
     let n = lesser(payload.len(), part.len());
-    let h = lesser(past(whole_from(a), k), n);
-    let w = whole_run(a, k + h as u64, n - h);
-    store_tested(a, k, &payload[..h], &mut part[..h]);
-    store_whole(a, k + h as u64, w, &payload[h..], &mut part[h..]);
+    if all_whole(a, k, n) {
+        copy_front(n, payload, part);
+        return;
+    }
+    store_runs(a, k, n, payload, part);
 }
 
 // Writes the enabled bytes of a payload into the store: the part that starts at window start plus 4p is lent. A start is any number; past the store

@@ -1,24 +1,28 @@
 -- Laws of take, in the words of the returns.
-use Prim.Native.Nat.{ℕ, zero, suc, _+_, _^_, _≤_}
+use Prim.Native.Nat.{ℕ, zero, suc, _+_, _-_, _*_, _^_, _≤_}
+use native.Mathlib.Omega.{arith}
 use mathlib.Core.Path.{_≡_, refl, sym, ap, _∙_}
-use mathlib.Core.Bool.{Bool, true, false, not, true≢false}
+use mathlib.Core.Bool.{Bool, true, false, not, _||_, _&&_, true≢false, and-eq-true-iff}
 use mathlib.Core.List.{List}
-use lib.Dec.{ltb}
-use lib.ListN.{length}
-use borrow.Author.Tests.{not-true, not-false}
+use lib.Dec.{ltb, leb, eqb}
+use lib.ListN.{length, take, drop}
+use borrow.Author.Tests.{not-true, not-false, eqb-true, ltb-false, le-leb}
 use Rattle.bits.specs.Choice.{pick}
 use Rattle.bits.specs.Word.{byte}
 use Rattle.tlp.specs.Rows.{first}
-use Rattle.tlp.specs.PacketTypes.{familyOf, typeAt}
-use Rattle.tlp.specs.Packets.{typeOf}
+use Rattle.tlp.specs.Settings.{settingsListed}
+use Rattle.tlp.specs.PacketTypes.{familyOf, typeAt, isUnlisted}
+use Rattle.tlp.specs.Packets.{typeOf, accessOf}
+use Rattle.tlp.specs.Sizes.{dataBytes}
+use Rattle.tlp.specs.declared.settings.Settings.{Settings}
+use Rattle.tlp.proofs.RowLaws.{first-none}
 use Rattle.tlp.specs.declared.packet_type.PacketType.{PacketType}
 use Rattle.tlp.specs.declared.packet_type.PacketType.the-variants.{MRd32, MRd64, MWr32, MWr64, IORd, IOWr, CfgRd0, CfgWr0, CfgRd1, CfgWr1, Msg, MsgD, Cpl, CplD, Unlisted}
 use Rattle.tlp.specs.declared.packet.Packet.{Packet}
-use Rattle.tlp.specs.declared.refusal.Refusal.{Refusal}
-use Rattle.tlp_read.specs.declared.ReadAnswer.{ReadAnswer}
-use Rattle.tlp_read.specs.declared.ReadAnswer.the-variants.{Accepted, Refused as Unreadable}
 use Rattle.tlp_read.specs.Read.{readRows, answerOf, readPacket, payloadOf}
 use Rattle.tlp_read.specs.Fields.{completionAt, addressAt, routeAt, kindAt, packetAt}
+use Rattle.tlp_read.specs.Completions.{hasCompletion, completionType, completionIn, completionRows}
+use Rattle.tlp_read.proofs.CompletionLaws.{completion-rows, completion-packet}
 use Rattle.read_rules.specs.declared.validity.Read.{Read}
 use Rattle.read_rules.specs.declared.piece.Piece.{Piece}
 use Rattle.read_rules.specs.declared.continuation.Origin.{Origin}
@@ -32,10 +36,10 @@ use Rattle.reads.specs.declared.take.Outcome.{Outcome}
 use Rattle.read_answers.specs.declared.TakeAnswer.{TakeAnswer}
 use Rattle.read_answers.specs.declared.TakeAnswer.the-variants.{More, Done, Failed, Poisoned, Unread, Refused}
 use Rattle.reads.specs.Tables.{tableOf, stateAt, withState, validTable}
-use Rattle.read_answers.specs.Takes.{readIn, tagOf, packetAnswer}
-use Rattle.read_answers.proofs.TakeLaws.{answer-other}
+use Rattle.read_answers.specs.Takes.{readIn, tagOf, pieceAnswer, packetAnswer}
+use Rattle.read_answers.proofs.TakeLaws.{answer-other, answer-piece, more-le}
 use Rattle.reads.specs.TakeCall.{advanced, tableGiven, storeGiven, packetTaking, packetStore, answerTaking, answerStore, takeCall, takeStore}
-use Rattle.reads.specs.Steps.{takes, recordGiven, packetOutcome, answerOutcome, takeOutcome, outcomeOf, packetLaid, answerLaid, takeLaid, laidOf}
+use Rattle.reads.specs.Steps.{takes, recordGiven, otherAnswer, kept, pieceOutcome, pieceAt, numberIn, numberedOutcome, completionOutcome, takeOutcome, outcomeOf, pieceLaid, numberedLaid, completionLaid, takeLaid, laidOf}
 
 -- ---- what an answer does to table and store
 
@@ -57,44 +61,104 @@ given-case a v x y n e q = rw e q
 pub store-case : (a v : TakeAnswer) (r : Read) (payload store store′ : List ℕ) → a ≡ v → store′ ≡ storeGiven v r payload store → store′ ≡ storeGiven a r payload store
 store-case a v r payload store store′ e q = rw e q
 
-module _ (o : Origin) (x : State) (p : Packet) (a : TakeAnswer) where
-  pub packet-outcome : (room : ℕ) (c : Piece) (y : State) → a ≡ packetAnswer o x p room → c ≡ pieceOf p → y ≡ recordGiven a x (c .length) → record { answer = a; state = y } ≡ packetOutcome o x p room
-  packet-outcome room c y e f q = rw (q, f, e)
+-- ---- a completion
 
-  pub packet-laid : (payload store store′ : List ℕ) (r : Read) → a ≡ packetAnswer o x p (length store) → r ≡ readIn x → store′ ≡ storeGiven a r payload store → store′ ≡ packetLaid o x p payload store
-  packet-laid payload store store′ r e k q = rw (← e, ← k) q
+module _ (o : Origin) (x : State) (c : Piece) (a : TakeAnswer) where
+  pub piece-outcome : (room : ℕ) → a ≡ pieceAnswer o x c room → record { answer = a; length = c .length } ≡ pieceOutcome o x c room
+  piece-outcome room e = rw e
+
+  pub piece-laid : (payload store store′ : List ℕ) (r : Read) → a ≡ pieceAnswer o x c (length store) → r ≡ readIn x → store′ ≡ storeGiven a r payload store → store′ ≡ pieceLaid o x c payload store
+  piece-laid payload store store′ r e k q = rw (← e, ← k) q
+
+unread-is : (n : ℕ) (r : Outcome) → (n ≡ 0 → ⊥) → kept (Unread (record { number = n })) ≡ numberedOutcome n r
+unread-is zero r h = absurd (h refl)
+unread-is (suc n) r h = refl
+
+unlaid-is : (n : ℕ) (laid store : List ℕ) → (n ≡ 0 → ⊥) → store ≡ numberedLaid n laid store
+unlaid-is zero laid store h = absurd (h refl)
+unlaid-is (suc n) laid store h = refl
+
+module _ (o : Origin) (x : State) (s : List ℕ) (p : Packet) (c : Piece) (n : ℕ) (ep : p ≡ completionIn s) (ec : c ≡ pieceOf p) (en : n ≡ first (completionRows (o .settings .mps) (c .length) s)) where
+  piece-is : c ≡ pieceAt s
+  piece-is = ec ∙ ap pieceOf ep
+
+  number-is : n ≡ numberIn o s
+  number-is = en ∙ ap (λ d. first (completionRows (o .settings .mps) (d .length) s)) piece-is
+
+  pub completion-unread : (room : ℕ) → (n ≡ 0 → ⊥) → record { answer = Unread (record { number = n }); length = 0 } ≡ completionOutcome o x s room
+  unfolding completionOutcome
+  completion-unread room h = rw (← number-is) (unread-is n _ h)
+
+  pub completion-unlaid : (store : List ℕ) → (n ≡ 0 → ⊥) → store ≡ completionLaid o x s store
+  unfolding completionLaid
+  completion-unlaid store h = rw (← number-is) (unlaid-is n _ store h)
+
+  module _ (h : n ≡ 0) where
+    -- the slice of the payload lies within the bytes
+    pub completion-fits : 12 + 4 * c .length ≤ length s
+    completion-fits =
+        let k = first-none (completionRows (o .settings .mps) (c .length) s) refl (sym en ∙ h) .0 in
+        let m = eqb-true (length s) _ (not-false _ k) in
+        omega (arith, m)
+
+    pub completion-read : (room : ℕ) (r : Outcome) → r ≡ pieceOutcome o x c room → r ≡ completionOutcome o x s room
+    unfolding completionOutcome
+    completion-read room r q = rw (← number-is, h, ← piece-is) q
+
+    pub completion-laid : (store store′ : List ℕ) → store′ ≡ pieceLaid o x c (take ((12 + 4 * c .length) - 12) (drop 12 s)) store → store′ ≡ completionLaid o x s store
+    unfolding completionLaid
+    completion-laid store store′ q =
+        let k : (12 + 4 * c .length) - 12 ≡ 4 * c .length = omega arith in
+        rw (← number-is, h, ← piece-is) (rw k at q)
+
+pub ruleset completion-laws = (completion-unread, completion-read)
+
+pub ruleset completion-stores = (completion-unlaid, completion-laid)
 
 -- ---- what bytes do
 
-module _ (v : Bool) (o : Origin) (x : State) (b : List ℕ) where
-  pub outcome-11 : (room : ℕ) → not v ≡ true → record { answer = Refused 11; state = x } ≡ takeOutcome v o x b room
+module _ (c : Settings) (s : List ℕ) (n : ℕ) (e : n ≡ first (readRows c s)) where
+  pub other-unread : (n ≡ 0 → ⊥) → Unread (record { number = n }) ≡ otherAnswer (first (readRows c s))
+  other-unread h = rw (← e) (go n h)
+    where
+      go : (m : ℕ) → (m ≡ 0 → ⊥) → Unread (record { number = m }) ≡ otherAnswer m
+      go zero k = absurd (k refl)
+      go (suc m) k = refl
+
+  pub other-29 : n ≡ 0 → Refused 29 ≡ otherAnswer (first (readRows c s))
+  other-29 h = rw (← e, h)
+
+pub ruleset other-laws = (other-unread, other-29)
+
+module _ (v : Bool) (o : Origin) (x : State) (s : List ℕ) where
+  pub outcome-11 : (room : ℕ) → not v ≡ true → record { answer = Refused 11; length = 0 } ≡ takeOutcome v o x s room
   unfolding takeOutcome
   outcome-11 room h = rw (not-true v h)
 
-  pub laid-11 : (store : List ℕ) → not v ≡ true → store ≡ takeLaid v o x b store
+  pub laid-11 : (store : List ℕ) → not v ≡ true → store ≡ takeLaid v o x s store
   unfolding takeLaid
   laid-11 store h = rw (not-true v h)
 
-  module _ (h : not v ≡ false) (a : ReadAnswer) (f : a ≡ readPacket (o .settings) b) where
-    pub outcome-unread : (room : ℕ) (r : Refusal) → a ≡ Unreadable r → record { answer = Unread r; state = x } ≡ takeOutcome v o x b room
+  module _ (h : not v ≡ false) (b : Bool) (e : b ≡ hasCompletion s) where
+    pub outcome-other : (room : ℕ) (a : TakeAnswer) → not b ≡ true → a ≡ otherAnswer (first (readRows (o .settings) s)) → record { answer = a; length = 0 } ≡ takeOutcome v o x s room
     unfolding takeOutcome
-    outcome-unread room r g = rw (not-false v h, ← f, g)
+    outcome-other room a k q = rw (not-false v h, ← e, not-true b k, q)
 
-    pub laid-unread : (store : List ℕ) (r : Refusal) → a ≡ Unreadable r → store ≡ takeLaid v o x b store
+    pub laid-other : (store : List ℕ) → not b ≡ true → store ≡ takeLaid v o x s store
     unfolding takeLaid
-    laid-unread store r g = rw (not-false v h, ← f, g)
+    laid-other store k = rw (not-false v h, ← e, not-true b k)
 
-    pub outcome-read : (room : ℕ) (p : Packet) (y : Outcome) → a ≡ Accepted p → y ≡ packetOutcome o x p room → y ≡ takeOutcome v o x b room
+    pub outcome-completion : (room : ℕ) (r : Outcome) → not b ≡ false → r ≡ completionOutcome o x s room → r ≡ takeOutcome v o x s room
     unfolding takeOutcome
-    outcome-read room p y g q = rw (not-false v h, ← f, g) q
+    outcome-completion room r k q = rw (not-false v h, ← e, not-false b k) q
 
-    pub laid-read : (store : List ℕ) (p : Packet) (d store′ : List ℕ) → a ≡ Accepted p → d ≡ payloadOf p b → store′ ≡ packetLaid o x p d store → store′ ≡ takeLaid v o x b store
+    pub laid-completion : (store store′ : List ℕ) → not b ≡ false → store′ ≡ completionLaid o x s store → store′ ≡ takeLaid v o x s store
     unfolding takeLaid
-    laid-read store p d store′ g k q = rw (not-false v h, ← f, g, ← k) q
+    laid-completion store store′ k q = rw (not-false v h, ← e, not-false b k) q
 
-pub ruleset outcome-laws = (outcome-11, outcome-unread, outcome-read)
+pub ruleset outcome-laws = (outcome-11, outcome-other, outcome-completion)
 
-pub ruleset laid-laws = (laid-11, laid-unread, laid-read)
+pub ruleset laid-laws = (laid-11, laid-other, laid-completion)
 
 -- ---- byte 10: a completion's tag; what is no completion is answered 29, whichever record is looked at
 
@@ -121,9 +185,94 @@ byte-ten Cpl s h = refl
 byte-ten CplD s h = refl
 byte-ten Unlisted s h = refl
 
-module _ (o : Origin) (p : Packet) (room : ℕ) where
-  other : (x : State) → isCompletion p ≡ false → packetAnswer o x p room ≡ Refused 29
-  other x h = sym (answer-other o x p room (isCompletion p) refl (ap not h))
+-- the bytes as a completion are one, with that tag and this payload
+module _ (s : List ℕ) where
+  as-completion : isCompletion (completionIn s) ≡ true
+  unfolding isCompletion completionIn packetAt kindAt routeAt typeOf
+  as-completion = go (eqb (byte s 0) 0x4A)
+    where
+      go : (b : Bool) → isCompletion (packetAt (pick b CplD Cpl) s) ≡ true
+      go true = refl
+      go false = refl
+
+  completion-tag : tagOf (completionIn s) ≡ byte s 10
+  unfolding completionIn
+  completion-tag = byte-ten (completionType (byte s 0)) s as-completion
+
+  completion-payload : payloadOf (completionIn s) s ≡ take (4 * pieceAt s .length) (drop 12 s)
+  unfolding payloadOf completionIn pieceOf packetAt kindAt routeAt typeOf accessOf dataBytes
+  completion-payload = go (eqb (byte s 0) 0x4A)
+    where
+      go : (b : Bool) → payloadOf (packetAt (pick b CplD Cpl) s) s ≡ take (4 * pieceOf (packetAt (pick b CplD Cpl) s) .length) (drop 12 s)
+      go true = refl
+      go false = refl
+
+either : (P : PacketType → Type 0) (b : Bool) (x y : PacketType) → P x → P y → P (pick b x y)
+either P true x y h k = h
+either P false x y h k = k
+
+-- the types of a byte 0 that is neither CplD's nor Cpl's
+other-types : (P : PacketType → Type 0) (b : ℕ) → eqb b 0x4A ≡ false → eqb b 0x0A ≡ false
+    → P MRd32 → P MRd64 → P MWr32 → P MWr64 → P IORd → P IOWr → P CfgRd0 → P CfgWr0 → P CfgRd1 → P CfgWr1 → P Msg → P MsgD → P Unlisted → P (typeAt b)
+unfolding typeAt
+other-types P b h k m1 m2 m3 m4 i1 i2 c1 c2 c3 c4 g1 g2 u =
+    rw (h, k)
+    (either P (eqb b 0x00) MRd32 _ m1
+    (either P (eqb b 0x20) MRd64 _ m2
+    (either P (eqb b 0x40) MWr32 _ m3
+    (either P (eqb b 0x60) MWr64 _ m4
+    (either P (eqb b 0x02) IORd _ i1
+    (either P (eqb b 0x42) IOWr _ i2
+    (either P (eqb b 0x04) CfgRd0 _ c1
+    (either P (eqb b 0x44) CfgWr0 _ c2
+    (either P (eqb b 0x05) CfgRd1 _ c3
+    (either P (eqb b 0x45) CfgWr1 _ c4
+    (either P (leb 0x30 b && leb b 0x37) Msg _ g1
+    (either P (leb 0x70 b && leb b 0x77) MsgD Unlisted g2 u))))))))))))
+
+-- bytes without one, which reading accepts: the type is listed, and none of the two
+module _ (s : List ℕ) where
+  none-listed : eqb (byte s 0) 0x4A ≡ false → eqb (byte s 0) 0x0A ≡ false → isUnlisted (familyOf (typeAt (byte s 0))) ≡ false → isCompletion (packetAt (typeAt (byte s 0)) s) ≡ false
+  unfolding isCompletion packetAt kindAt routeAt typeOf
+  none-listed h k =
+      other-types (λ t. isUnlisted (familyOf t) ≡ false → isCompletion (packetAt t s) ≡ false) (byte s 0) h k
+      (λ l. neither (ltb (addressAt 4 s) (2 ^ 32)) MRd32 MRd64 refl refl)
+      (λ l. neither (ltb (addressAt 8 s) (2 ^ 32)) MRd32 MRd64 refl refl)
+      (λ l. neither (ltb (addressAt 4 s) (2 ^ 32)) MWr32 MWr64 refl refl)
+      (λ l. neither (ltb (addressAt 8 s) (2 ^ 32)) MWr32 MWr64 refl refl)
+      (λ l. refl) (λ l. refl) (λ l. refl) (λ l. refl) (λ l. refl) (λ l. refl) (λ l. refl) (λ l. refl) (λ l. absurd (true≢false l))
+
+  neither-holds : (a b : Bool) → (a || b) ≡ false → (a ≡ false) × (b ≡ false)
+  neither-holds true b h = absurd (true≢false h)
+  neither-holds false b h = (refl, h)
+
+  no-completion : (c : Settings) → hasCompletion s ≡ false → first (readRows c s) ≡ 0 → isCompletion (packetAt (typeAt (byte s 0)) s) ≡ false
+  unfolding hasCompletion
+  no-completion c h e =
+      let k = first-none (readRows c s) refl e in
+      let l = le-leb 12 (length s) (ltb-false (length s) 12 (k .1 .0)) in
+      let m : (eqb (byte s 0) 0x4A || eqb (byte s 0) 0x0A) ≡ false = rw l at h in
+      let n = neither-holds (eqb (byte s 0) 0x4A) (eqb (byte s 0) 0x0A) m in
+      none-listed (n .0) (n .1) (k .1 .1 .0)
+
+-- More is answered to a completion alone
+more-piece : (v b : Bool) (n m : ℕ) (r : Outcome) → (pick v (pick b (numberedOutcome n r) (kept (otherAnswer m))) (kept (Refused 11))) .answer ≡ More
+    → pick v (pick b (numberedOutcome n r) (kept (otherAnswer m))) (kept (Refused 11)) ≡ r
+more-piece true true zero m r h = refl
+more-piece true true (suc n) m r h = let z : _≡_ {A = ℕ} 0 1 = cc in absurd (omega arith)
+more-piece true false n zero r h = let z : _≡_ {A = ℕ} 0 1 = cc in absurd (omega arith)
+more-piece true false n (suc m) r h = let z : _≡_ {A = ℕ} 0 1 = cc in absurd (omega arith)
+more-piece false b n m r h = let z : _≡_ {A = ℕ} 0 1 = cc in absurd (omega arith)
+
+pub more-fits-in : (t : Table) (tag : ℕ) (s : List ℕ) (room : ℕ) (d : Outcome) (x : State) → d ≡ outcomeOf t tag s room → x ≡ stateAt t tag → d .answer ≡ More
+    → readIn x .taken + d .length ≤ readIn x .request .access .length
+unfolding takeOutcome completionOutcome
+more-fits-in t tag s room d x e k h =
+    let o = t .origin in
+    let g = e ∙ more-piece (validTable t) (hasCompletion s) (numberIn o s) (first (readRows (o .settings) s)) (pieceOutcome o (stateAt t tag) (pieceAt s) room) (rw e at h) in
+    let a : d .answer ≡ packetAnswer o x (completionIn s) room = rw (g, k) (sym (answer-piece o (stateAt t tag) (completionIn s) room (as-completion s))) in
+    let l : d .length ≡ pieceAt s .length = rw g in
+    rw l (more-le o x (completionIn s) room (d .answer) (pieceAt s) (readIn x) a h refl refl)
 
 -- what is stored is what the table after the answer has
 stored-given : (t : Table) (p : Packet) (a : TakeAnswer)
@@ -137,6 +286,10 @@ stored-given t p (Refused n) = refl
 
 -- ---- the whole call
 
+valid-listed : (t : Table) → validTable t ≡ true → settingsListed (t .origin .settings) ≡ true
+unfolding validTable
+valid-listed t h = and-eq-true-iff (settingsListed (t .origin .settings)) _ .0 h .0
+
 module _ (t : Table) (s : List ℕ) where
   abbrev packet : Packet
   packet = packetAt (typeAt (byte s 0)) s
@@ -144,47 +297,72 @@ module _ (t : Table) (s : List ℕ) where
   abbrev seen : State
   seen = stateAt t (byte s 10)
 
-  -- b is whether the table is valid, n the reader's number
-  abbrev outcomeFrom : ℕ → Bool → ℕ → Outcome
-  outcomeFrom room b n = pick b (answerOutcome (t .origin) seen (answerOf n packet) room) (record { answer = Refused 11; state = seen })
-
   -- the table with what is stored of an outcome
   abbrev after : Outcome → Taking
-  after r = record { table = pick (takes (r .answer)) (withState t (byte s 10) (r .state)) t; answer = r .answer }
+  after r = record { table = pick (takes (r .answer)) (withState t (byte s 10) (recordGiven (r .answer) seen (r .length))) t; answer = r .answer }
 
-  packet-done : (room : ℕ) → after (packetOutcome (t .origin) seen packet room) ≡ packetTaking t packet room
+  piece-done : (room : ℕ) → after (pieceOutcome (t .origin) seen (pieceAt s) room) ≡ packetTaking t (completionIn s) room
   unfolding packetTaking
-  packet-done room = go (isCompletion packet) refl
-    where
-      go : (b : Bool) → isCompletion packet ≡ b → after (packetOutcome (t .origin) seen packet room) ≡ packetTaking t packet room
-      go true h = rw (← byte-ten (typeAt (byte s 0)) s h, stored-given t packet _)
-      go false h = rw (other (t .origin) packet room seen h, other (t .origin) packet room (stateAt t (tagOf packet)) h)
+  piece-done room = rw (← answer-piece (t .origin) seen (completionIn s) room (as-completion s), ← completion-tag s, stored-given t (completionIn s) _)
 
-  packet-left : (payload store : List ℕ) → packetLaid (t .origin) seen packet payload store ≡ packetStore t packet payload store
+  piece-left : (store : List ℕ) → pieceLaid (t .origin) seen (pieceAt s) (take (4 * pieceAt s .length) (drop 12 s)) store ≡ packetStore t (completionIn s) (payloadOf (completionIn s) s) store
   unfolding packetStore
-  packet-left payload store = go (isCompletion packet) refl
-    where
-      go : (b : Bool) → isCompletion packet ≡ b → packetLaid (t .origin) seen packet payload store ≡ packetStore t packet payload store
-      go true h = rw (← byte-ten (typeAt (byte s 0)) s h)
-      go false h = rw (other (t .origin) packet (length store) seen h, other (t .origin) packet (length store) (stateAt t (tagOf packet)) h)
+  piece-left store = rw (completion-payload s, ← answer-piece (t .origin) seen (completionIn s) (length store) (as-completion s), ← completion-tag s)
 
-  whole : (room : ℕ) → after (takeOutcome (validTable t) (t .origin) seen s room) ≡ takeCall t s room
-  unfolding takeCall takeOutcome readPacket
-  whole room = go (validTable t) (first (readRows (t .origin .settings) s))
-    where
-      go : (b : Bool) (n : ℕ) → after (outcomeFrom room b n) ≡ pick b (answerTaking t (answerOf n packet) room) (record { table = t; answer = Refused 11 })
-      go true zero = packet-done room
-      go true (suc n) = refl
-      go false n = refl
+  module _ (h : hasCompletion s ≡ true) (ok : settingsListed (t .origin .settings) ≡ true) where
+    completion-done : (room : ℕ) → after (completionOutcome (t .origin) seen s room) ≡ answerTaking t (readPacket (t .origin .settings) s) room
+    unfolding completionOutcome readPacket pieceOf
+    completion-done room = rw (completion-rows s h (t .origin .settings) ok, completion-packet s h) (by (numberIn (t .origin) s))
+      where
+        by : (n : ℕ) → after (numberedOutcome n (pieceOutcome (t .origin) seen (pieceAt s) room)) ≡ answerTaking t (answerOf n (completionIn s)) room
+        by zero = piece-done room
+        by (suc n) = refl
 
-  left : (store : List ℕ) → takeLaid (validTable t) (t .origin) seen s store ≡ takeStore t s store
-  unfolding takeLaid takeStore readPacket
-  left store = go (validTable t) (first (readRows (t .origin .settings) s))
+    completion-left : (store : List ℕ) → completionLaid (t .origin) seen s store ≡ answerStore t (readPacket (t .origin .settings) s) s store
+    unfolding completionLaid readPacket pieceOf
+    completion-left store = rw (completion-rows s h (t .origin .settings) ok, completion-packet s h) (by (numberIn (t .origin) s))
+      where
+        by : (n : ℕ) → numberedLaid n (pieceLaid (t .origin) seen (pieceAt s) (take (4 * pieceAt s .length) (drop 12 s)) store) store ≡ answerStore t (answerOf n (completionIn s)) s store
+        by zero = piece-left store
+        by (suc n) = refl
+
+  module _ (h : hasCompletion s ≡ false) where
+    other-done : (room : ℕ) → after (kept (otherAnswer (first (readRows (t .origin .settings) s)))) ≡ answerTaking t (readPacket (t .origin .settings) s) room
+    unfolding readPacket packetTaking
+    other-done room = by (first (readRows (t .origin .settings) s)) refl
+      where
+        by : (n : ℕ) → first (readRows (t .origin .settings) s) ≡ n → after (kept (otherAnswer n)) ≡ answerTaking t (answerOf n packet) room
+        by zero e = rw (answer-other (t .origin) (stateAt t (tagOf packet)) packet room (no-completion s (t .origin .settings) h e))
+        by (suc n) e = refl
+
+    other-left : (store : List ℕ) → store ≡ answerStore t (readPacket (t .origin .settings) s) s store
+    unfolding readPacket packetStore
+    other-left store = by (first (readRows (t .origin .settings) s)) refl
+      where
+        by : (n : ℕ) → first (readRows (t .origin .settings) s) ≡ n → store ≡ answerStore t (answerOf n packet) s store
+        by zero e = rw (answer-other (t .origin) (stateAt t (tagOf packet)) packet (length store) (no-completion s (t .origin .settings) h e))
+        by (suc n) e = refl
+
+  whole : (room : ℕ) → after (outcomeOf t (byte s 10) s room) ≡ takeCall t s room
+  unfolding takeCall takeOutcome
+  whole room = go (validTable t) refl (hasCompletion s) refl
     where
-      go : (b : Bool) (n : ℕ) → pick b (answerLaid (t .origin) seen (answerOf n packet) s store) store ≡ pick b (answerStore t (answerOf n packet) s store) store
-      go true zero = packet-left (payloadOf packet s) store
-      go true (suc n) = refl
-      go false n = refl
+      go : (v : Bool) → validTable t ≡ v → (b : Bool) → hasCompletion s ≡ b
+          → after (pick v (pick b (completionOutcome (t .origin) seen s room) (kept (otherAnswer (first (readRows (t .origin .settings) s))))) (kept (Refused 11)))
+          ≡ pick v (answerTaking t (readPacket (t .origin .settings) s) room) (record { table = t; answer = Refused 11 })
+      go true e true h = completion-done h (valid-listed t e) room
+      go true e false h = other-done h room
+      go false e b h = refl
+
+  left : (store : List ℕ) → laidOf t (byte s 10) s store ≡ takeStore t s store
+  unfolding takeLaid takeStore
+  left store = go (validTable t) refl (hasCompletion s) refl
+    where
+      go : (v : Bool) → validTable t ≡ v → (b : Bool) → hasCompletion s ≡ b
+          → pick v (pick b (completionLaid (t .origin) seen s store) store) store ≡ pick v (answerStore t (readPacket (t .origin .settings) s) s store) store
+      go true e true h = completion-left h (valid-listed t e) store
+      go true e false h = other-left h store
+      go false e b h = refl
 
 module _ (t : Table) (tag : ℕ) (v : Bool) (x : State) (e : v ≡ validTable t) (f : x ≡ stateAt t tag) (s : List ℕ) where
   pub outcome-seen : (room : ℕ) (d : Outcome) → d ≡ takeOutcome v (t .origin) x s room → d ≡ outcomeOf t tag s room
@@ -198,13 +376,14 @@ module _ (o : Origin) (opened words s : List ℕ) (tag : ℕ) (e : tag ≡ byte 
     outcome-is : after (tableOf o opened words) s d ≡ takeCall (tableOf o opened words) s room
     outcome-is = ap (after (tableOf o opened words) s) (rw e at g) ∙ whole (tableOf o opened words) s room
 
-    pub take-done : (opened′ words′ : List ℕ) → not r ≡ false → opened′ ≡ openedWith opened tag (d .state) → words′ ≡ wordsWith words tag (d .state)
-        → record { table = tableOf o opened′ words′; answer = d .answer } ≡ takeCall (tableOf o opened words) s room
+    -- x is the record of the tag, y what is put in its place
+    pub take-done : (opened′ words′ : List ℕ) (x y : State) → not r ≡ false → x ≡ stateAt (tableOf o opened words) tag → y ≡ recordGiven (d .answer) x (d .length)
+        → opened′ ≡ openedWith opened tag y → words′ ≡ wordsWith words tag y → record { table = tableOf o opened′ words′; answer = d .answer } ≡ takeCall (tableOf o opened words) s room
     unfolding withState
-    take-done opened′ words′ n l m = same ∙ outcome-is
+    take-done opened′ words′ x y n k q l m = same ∙ outcome-is
       where
         same : record { table = tableOf o opened′ words′; answer = d .answer } ≡ after (tableOf o opened words) s d
-        same = rw (← e, ← h, not-false r n, l, m)
+        same = rw (← e, ← h, not-false r n, l, m, q, k)
 
     pub take-kept : not r ≡ true → record { table = tableOf o opened words; answer = d .answer } ≡ takeCall (tableOf o opened words) s room
     take-kept n = same ∙ outcome-is

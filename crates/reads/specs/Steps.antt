@@ -1,28 +1,27 @@
 -- What the calls are made of. Inner functions state these, and no promise does: what is promised is openCall, takeCall, withdrawCall and owedCall.
-use Prim.Native.Nat.{ℕ, zero, suc}
+use Prim.Native.Nat.{ℕ, zero, suc, _*_}
 use mathlib.Core.Bool.{Bool, true, false, not}
 use mathlib.Core.List.{List, _∷_, _++_}
 use lib.Dec.{leb}
-use lib.ListN.{length}
+use lib.ListN.{length, take, drop}
 use Rattle.bits.specs.Choice.{pick}
 use Rattle.tlp.specs.Rows.{Row, row, first}
-use Rattle.tlp.specs.declared.packet.Packet.{Packet}
-use Rattle.tlp_read.specs.declared.ReadAnswer.{ReadAnswer}
-use Rattle.tlp_read.specs.declared.ReadAnswer.the-variants.{Accepted, Refused as Unreadable}
-use Rattle.tlp_read.specs.Read.{readPacket, payloadOf}
+use Rattle.tlp_read.specs.Read.{readRows}
+use Rattle.tlp_read.specs.Completions.{hasCompletion, completionIn, completionRows}
 use Rattle.tlp_write.specs.declared.WriteAnswer.{WriteAnswer}
 use Rattle.tlp_write.specs.declared.WriteAnswer.the-variants.{Written, Refused as Unwritten}
 use Rattle.read_rules.specs.declared.request.ReadRequest.{ReadRequest}
 use Rattle.read_rules.specs.declared.continuation.Origin.{Origin}
 use Rattle.read_rules.specs.Requests.{requestRows}
 use Rattle.read_rules.specs.Windows.{placeRows}
+use Rattle.read_rules.specs.declared.piece.Piece.{Piece}
 use Rattle.read_rules.specs.Pieces.{pieceOf}
 use Rattle.read_slots.specs.declared.State.{State}
 use Rattle.read_slots.specs.declared.State.the-variants.{Free}
 use Rattle.read_slots.specs.Slots.{isOpen}
 use Rattle.read_answers.specs.declared.TakeAnswer.{TakeAnswer}
 use Rattle.read_answers.specs.declared.TakeAnswer.the-variants.{More, Done, Failed, Poisoned, Unread, Refused}
-use Rattle.read_answers.specs.Takes.{readIn, packetAnswer}
+use Rattle.read_answers.specs.Takes.{readIn, pieceAnswer}
 use Rattle.reads.specs.declared.table.Table.{Table}
 use Rattle.reads.specs.declared.take.Outcome.{Outcome}
 use Rattle.reads.specs.declared.answer.OpenAnswer.{OpenAnswer}
@@ -72,30 +71,55 @@ headerAnswer (suc n) x = OpenRefused (suc n)
 
 -- ---- take; x is the record of the tag that byte 10 names
 
-abbrev pub packetOutcome : Origin → State → Packet → ℕ → Outcome
-packetOutcome o x p room = record { answer = packetAnswer o x p room; state = recordGiven (packetAnswer o x p room) x (pieceOf p .length) }
+-- bytes without a completion: n is the reader's number
+abbrev pub otherAnswer : ℕ → TakeAnswer
+otherAnswer zero = Refused 29
+otherAnswer (suc n) = Unread (record { number = suc n })
 
-abbrev pub answerOutcome : Origin → State → ReadAnswer → ℕ → Outcome
-answerOutcome o x (Accepted p) room = packetOutcome o x p room
-answerOutcome o x (Unreadable r) room = record { answer = Unread r; state = x }
+-- what does not change a record has length 0
+abbrev pub kept : TakeAnswer → Outcome
+kept a = record { answer = a; length = 0 }
+
+abbrev pub pieceOutcome : Origin → State → Piece → ℕ → Outcome
+pieceOutcome o x c room = record { answer = pieceAnswer o x c room; length = c .length }
+
+-- the bytes as a completion, and the reader's number for it
+abbrev pub pieceAt : List ℕ → Piece
+pieceAt bytes = pieceOf (completionIn bytes)
+
+abbrev pub numberIn : Origin → List ℕ → ℕ
+numberIn o bytes = first (completionRows (o .settings .mps) (pieceAt bytes .length) bytes)
+
+abbrev pub numberedOutcome : ℕ → Outcome → Outcome
+numberedOutcome zero r = r
+numberedOutcome (suc n) r = kept (Unread (record { number = suc n }))
+
+unfoldable pub completionOutcome : Origin → State → List ℕ → ℕ → Outcome
+completionOutcome o x bytes room = numberedOutcome (numberIn o bytes) (pieceOutcome o x (pieceAt bytes) room)
 
 unfoldable pub takeOutcome : Bool → Origin → State → List ℕ → ℕ → Outcome
-takeOutcome valid o x bytes room = pick valid (answerOutcome o x (readPacket (o .settings) bytes) room) (record { answer = Refused 11; state = x })
+takeOutcome valid o x bytes room =
+    pick valid
+    (pick (hasCompletion bytes) (completionOutcome o x bytes room) (kept (otherAnswer (first (readRows (o .settings) bytes)))))
+    (kept (Refused 11))
 
 -- of a table, with the record of a tag
 abbrev pub outcomeOf : Table → ℕ → List ℕ → ℕ → Outcome
 outcomeOf t tag bytes room = takeOutcome (validTable t) (t .origin) (stateAt t tag) bytes room
 
 -- the store afterwards
-abbrev pub packetLaid : Origin → State → Packet → List ℕ → List ℕ → List ℕ
-packetLaid o x p payload store = storeGiven (packetAnswer o x p (length store)) (readIn x) payload store
+abbrev pub pieceLaid : Origin → State → Piece → List ℕ → List ℕ → List ℕ
+pieceLaid o x c payload store = storeGiven (pieceAnswer o x c (length store)) (readIn x) payload store
 
-abbrev pub answerLaid : Origin → State → ReadAnswer → List ℕ → List ℕ → List ℕ
-answerLaid o x (Accepted p) bytes store = packetLaid o x p (payloadOf p bytes) store
-answerLaid o x (Unreadable r) bytes store = store
+abbrev pub numberedLaid : ℕ → List ℕ → List ℕ → List ℕ
+numberedLaid zero laid store = laid
+numberedLaid (suc n) laid store = store
+
+unfoldable pub completionLaid : Origin → State → List ℕ → List ℕ → List ℕ
+completionLaid o x bytes store = numberedLaid (numberIn o bytes) (pieceLaid o x (pieceAt bytes) (take (4 * pieceAt bytes .length) (drop 12 bytes)) store) store
 
 unfoldable pub takeLaid : Bool → Origin → State → List ℕ → List ℕ → List ℕ
-takeLaid valid o x bytes store = pick valid (answerLaid o x (readPacket (o .settings) bytes) bytes store) store
+takeLaid valid o x bytes store = pick valid (pick (hasCompletion bytes) (completionLaid o x bytes store) store) store
 
 abbrev pub laidOf : Table → ℕ → List ℕ → List ℕ → List ℕ
 laidOf t tag bytes store = takeLaid (validTable t) (t .origin) (stateAt t tag) bytes store

@@ -5,9 +5,10 @@ use crate::table::is_valid;
 use crate::table::state_at;
 use bits::word::byte_at;
 use read_answers::TakeAnswer;
-use read_answers::packet_answer;
+use read_answers::piece_answer;
 use read_answers::read_in;
 use read_rules::continuation::Origin;
+use read_rules::piece::Piece;
 use read_rules::piece::piece_of;
 use read_rules::validity::Read;
 use read_slots::State;
@@ -15,17 +16,22 @@ use read_slots::record::put_state;
 use read_store::store_piece;
 use read_words::tag_set::TagSet;
 use read_words::words::Words;
-use tlp::packet::Packet;
-use tlp_read::ReadAnswer;
-use tlp_read::read;
+use tlp::refusal::Refusal;
+use tlp::settings::Settings;
+use tlp_read::completion::completion_number;
+use tlp_read::completion::completion_packet;
+use tlp_read::completion::has_completion;
+use tlp_read::read_number;
 ghost use mathlib.Core.Path.{_≡_};
 ghost use Prim.Native.Nat.{_+_, _≤_};
 ghost use lib.ListN.{length};
+ghost use Rattle.tlp.specs.Rows.{first};
+ghost use Rattle.tlp_read.specs.Read.{readRows};
 ghost use Rattle.read_answers.specs.Takes.{readIn};
 ghost use Rattle.reads.specs.Tables.{tableOf};
 ghost use Rattle.reads.specs.TakeCall.{advanced, storeGiven, takeCall, takeStore};
 ghost use Rattle.reads.specs.Lent.{takingOf};
-ghost use Rattle.reads.specs.Steps.{recordGiven, packetOutcome, takeOutcome, outcomeOf, packetLaid, takeLaid, laidOf, takes};
+ghost use Rattle.reads.specs.Steps.{recordGiven, otherAnswer, pieceOutcome, completionOutcome, takeOutcome, outcomeOf, pieceLaid, completionLaid, takeLaid, laidOf, takes};
 
 // A record after n doublewords more.
 fn advance(x: State, n: u32) -> State
@@ -44,10 +50,10 @@ fn advance(x: State, n: u32) -> State
     }
 }
 
-// What a packet does: the answer, and the record of its tag afterwards.
+// What bytes do: the answer, and the completion's length where it is taken.
 pub(crate) struct Outcome {
     pub answer: TakeAnswer,
-    pub state: State,
+    pub length: u32,
 }
 
 // The record after an answer; n is the completion's length.
@@ -80,21 +86,50 @@ fn store_given(a: TakeAnswer, r: Read, payload: &[u8], store: &mut [u8])
     }
 }
 
-// What a packet that was read does; x is the record of its tag.
-fn packet_outcome(o: Origin, x: State, p: Packet, payload: &[u8], store: &mut [u8]) -> Outcome
-    ensures { λ r. ⌜ r ≡ packetOutcome o x p (length (now (store .entry))) ⌝ }
-    ensures { λ _. ⌜ now (store .exit) ≡ packetLaid o x p (now (payload .entry)) (now (store .entry)) ⌝ }
+// The answer to bytes that hold no completion: the reader's number, or 29.
+fn other_answer(s: Settings, bytes: &[u8]) -> TakeAnswer
+    ensures { λ a. ⌜ a ≡ otherAnswer (first (readRows s (now (bytes .entry)))) ⌝ }
 {
-    let answer = packet_answer(o, x, p, store.len() as u64);
+    let n = read_number(s, bytes);
+    if n != 0 {
+        return TakeAnswer::Unread(Refusal { number: n });
+    }
+    TakeAnswer::Refused(29)
+}
+
+// What a completion that was read does; x is the record of its tag.
+fn piece_outcome(o: Origin, x: State, c: Piece, payload: &[u8], store: &mut [u8]) -> Outcome
+    ensures { λ r. ⌜ r ≡ pieceOutcome o x c (length (now (store .entry))) ⌝ }
+    ensures { λ _. ⌜ now (store .exit) ≡ pieceLaid o x c (now (payload .entry)) (now (store .entry)) ⌝ }
+{
+    let answer = piece_answer(o, x, c, store.len() as u64);
     store_given(answer, read_in(x), payload, store);
-    let c = piece_of(p);
     Outcome {
         answer: answer,
-        state: record_given(answer, x, c.length),
+        length: c.length,
     }
 }
 
-// What bytes do; x is the record of the tag that byte 10 names.
+// What bytes do as a completion.
+fn completion_outcome(o: Origin, x: State, bytes: &[u8], store: &mut [u8]) -> Outcome
+    ensures { λ r. ⌜ r ≡ completionOutcome o x (now (bytes .entry)) (length (now (store .entry))) ⌝ }
+    ensures { λ _. ⌜ now (store .exit) ≡ completionLaid o x (now (bytes .entry)) (now (store .entry)) ⌝ }
+{
+    let s = o.settings;
+    let c = piece_of(completion_packet(bytes));
+    let n = completion_number(s.mps, c.length, bytes);
+    if n != 0 {
+        return Outcome {
+            answer: TakeAnswer::Unread(Refusal { number: n }),
+            length: 0,
+        };
+    }
+    let end = 12 + 4 * c.length as usize;
+    piece_outcome(o, x, c, &bytes[12..end], store)
+}
+
+// What bytes do; x is the record of the tag that byte 10 names. A valid table has listed settings, so a completion is not read with a second test of
+// these.
 fn take_outcome(valid: bool, o: Origin, x: State, bytes: &[u8], store: &mut [u8]) -> Outcome
     ensures { λ r. ⌜ r ≡ takeOutcome valid o x (now (bytes .entry)) (length (now (store .entry))) ⌝ }
     ensures { λ _. ⌜ now (store .exit) ≡ takeLaid valid o x (now (bytes .entry)) (now (store .entry)) ⌝ }
@@ -102,17 +137,16 @@ fn take_outcome(valid: bool, o: Origin, x: State, bytes: &[u8], store: &mut [u8]
     if !valid {
         return Outcome {
             answer: TakeAnswer::Refused(11),
-            state: x,
+            length: 0,
         };
     }
-    let answer = read(o.settings, bytes);
-    match answer {
-        ReadAnswer::Refused(r) => Outcome {
-            answer: TakeAnswer::Unread(r),
-            state: x,
-        },
-        ReadAnswer::Accepted(p) => packet_outcome(o, x, p, tlp_read::payload(p, bytes), store),
+    if !has_completion(bytes) {
+        return Outcome {
+            answer: other_answer(o.settings, bytes),
+            length: 0,
+        };
     }
+    completion_outcome(o, x, bytes, store)
 }
 
 // What bytes do to the table that the parts make; tag is the one that byte 10 names.
@@ -163,7 +197,7 @@ pub fn take_lent(
     if !takes(answer) {
         return answer;
     }
-    let x = done.state;
+    let x = record_given(answer, state_at(o, opened, words, tag as u32), done.length);
     put_state(opened, words, tag as usize, x);
     answer
 }

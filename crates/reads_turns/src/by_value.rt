@@ -27,13 +27,13 @@ pub(crate) fn run_turns(
         if takes {
             let b = v.take(bytes, store);
             let y = b.answer;
-            code = take_turn_code(code, x, y);
             u = b.table;
+            code = take_turn_code(code, x, y);
         } else {
             let b = v.withdraw(tag);
             let y = b.answer;
-            code = withdraw_turn_code(code, x, y);
             u = b.table;
+            code = withdraw_turn_code(code, x, y);
         }
     }
     code

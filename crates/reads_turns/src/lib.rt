@@ -1,9 +1,10 @@
-// Turns of calls on a table, by value or in place, for a program to be timed: each line of standard input says which and how many, each line of
-// standard output what came of them. A program that turns one way alone has one caller of each of the table's calls, as a host has; one that turns
-// both ways has two, and there the calls stand apart.
+// Turns of calls on a table, by value, in place or over what is lent of it, for a program to be timed: each line of standard input says which and how
+// many, each line of standard output what came of them. A program that turns one way alone has one caller of each of the table's cores, as a host
+// has. In one that turns every way a core has two, the method and the lent turns; those of open and take stand apart there.
 mod by_value;
 mod code;
 mod in_place;
+mod lent;
 mod packet;
 mod setup;
 mod work;
@@ -38,6 +39,7 @@ fn window_sum(store: &[u8; 65536]) -> u64 {
 // The number of the first call that is refused; 0 where none is. Open only measures its store, so it is lent another of the same size.
 fn turns_code(
     lent: bool,
+    place: bool,
     w: Work,
     t: Table,
     bytes: &[u8; 4108],
@@ -48,12 +50,15 @@ fn turns_code(
     let q = read_of(w.size);
     let packet = part(bytes, 0, 12 + w.size as usize);
     if lent {
+        return lent::run_turns(t, w.takes, w.turns, q, packet, &room, store, out, w.tag);
+    }
+    if place {
         return in_place::run_turns(t, w.takes, w.turns, q, packet, &room, store, out, w.tag);
     }
     by_value::run_turns(t, w.takes, w.turns, q, packet, &room, store, out, w.tag)
 }
 
-fn run_work(lent: bool, w: Work)
+fn run_work(lent: bool, place: bool, w: Work)
     requires { ⌜ (w .others ≤ 31) × (w .size ≤ 4096) × (w .tag ≤ 31) ⌝ }
 {
     let mut bytes = [0u8; 4108];
@@ -61,7 +66,7 @@ fn run_work(lent: bool, w: Work)
     let mut out = [0u8; 16];
     put_packet(w.size, w.tag, &mut bytes);
     let t = first_table(w.others, w.tag);
-    let code = turns_code(lent, w, t, &bytes, &mut store, &mut out);
+    let code = turns_code(lent, place, w, t, &bytes, &mut store, &mut out);
     io::write_all(1, b"code=");
     io::print_decimal(1, code as u64);
     io::write_all(1, b" sum=");
@@ -70,26 +75,26 @@ fn run_work(lent: bool, w: Work)
 }
 
 // What a line says to do, after the field before.
-fn run_rest(lent: bool, line: &[u8], before: Field) {
+fn run_rest(lent: bool, place: bool, line: &[u8], before: Field) {
     let w = work_in(line, before);
     if w.good {
-        run_work(lent, w);
+        run_work(lent, place, w);
         return;
     }
     io::write_all(1, b"bad\n");
 }
 
-// Flags and no enum: a flag that a program fixes reaches the turns as a constant, and the way not taken is dropped before the calls are compiled in.
-fn run_line(named: bool, lent: bool, line: &[u8]) {
+// Flags and no enum: a flag that a program fixes reaches the turns as a constant, and the ways not taken are dropped before calls are compiled in.
+fn run_line(named: bool, place: bool, line: &[u8]) {
     if named {
         let way = way_in(line);
-        run_rest(way.first, line, way.field);
+        run_rest(way.lent, way.place, line, way.field);
         return;
     }
-    run_rest(lent, line, line_start());
+    run_rest(false, place, line, line_start());
 }
 
-fn run_lines(named: bool, lent: bool) -> usize
+fn run_lines(named: bool, place: bool) -> usize
     ensures { λ n. ⌜ n ≤ 65536 ⌝ }
 {
     let mut input = io::large_buffer();
@@ -97,17 +102,17 @@ fn run_lines(named: bool, lent: bool) -> usize
     let mut at: usize = 0;
     while at < n {
         let end = bytes::scan::find(&input, at, n, b'\n');
-        run_line(named, lent, &input[at..end]);
+        run_line(named, place, &input[at..end]);
         at = end + 1;
     }
     n
 }
 
-// Runs the lines one way, and answers how many bytes of input there were.
-pub fn run(lent: bool) -> usize
+// Runs the lines in place or by value, and answers how many bytes of input there were.
+pub fn run(place: bool) -> usize
     ensures { λ n. ⌜ n ≤ 65536 ⌝ }
 {
-    run_lines(false, lent)
+    run_lines(false, place)
 }
 
 // The same, each line the way that it names.

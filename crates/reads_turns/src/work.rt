@@ -1,4 +1,4 @@
-// A line of input: `take|withdraw others=N size=N tag=N turns=N`, and where it names the way `value ` or `place ` before.
+// A line of input: `take|withdraw others=N size=N tag=N turns=N`, and where it names the way `value `, `place ` or `lent ` before.
 use text::fields::Field;
 use text::fields::decimal_after;
 use text::fields::key_after;
@@ -42,9 +42,29 @@ fn one_of_two(line: &[u8], before: Field, one: &[u8], two: &[u8]) -> Choice {
     }
 }
 
-// The way that a line names: whether it is in place.
-pub(crate) fn way_in(line: &[u8]) -> Choice {
-    one_of_two(line, line_start(), b"place ", b"value ")
+// The way that a line names, and the field after its word.
+pub(crate) struct Way {
+    pub lent: bool,
+    pub place: bool,
+    pub field: Field,
+}
+
+pub(crate) fn way_in(line: &[u8]) -> Way {
+    let a = key_after(line, line_start(), b"lent ");
+    if a.good {
+        return Way {
+            lent: true,
+            place: false,
+            field: a,
+        };
+    }
+    let b = one_of_two(line, line_start(), b"place ", b"value ");
+    let field = b.field;
+    Way {
+        lent: false,
+        place: b.first,
+        field: field,
+    }
 }
 
 // A size is a number of doublewords, so that a read has it; the line ends with its last number.

@@ -1,3 +1,4 @@
 pub mod FieldReturns
 pub mod ReadReturns
 pub mod PayloadReturns
+pub mod CompletionLaws

@@ -1,3 +1,4 @@
 pub mod Fields
 pub mod Read
+pub mod Completions
 pub mod Cases

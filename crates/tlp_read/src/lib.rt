@@ -1,4 +1,5 @@
 // Reading packets.
+pub mod completion;
 pub mod fields;
 mod rows;
 

@@ -53,7 +53,7 @@ fn data_size(s: &[u8]) -> usize
     0
 }
 
-fn size_called(header: usize, payload: usize, s: &[u8]) -> usize
+pub(crate) fn size_called(header: usize, payload: usize, s: &[u8]) -> usize
     requires { ⌜ header ≤ 16 ⌝ }
     requires { ⌜ payload ≤ 17179869180 ⌝ }
     ensures { λ r. ⌜ r ≡ header + payload + digestBytes (digestAt (now (s .entry))) ⌝ }

@@ -6,10 +6,10 @@ use Rattle.reads_turns.proofs.run_lines.Statement.{statement}
 use Rattle.reads_turns.proofs.run_lines.Tie as tie
 
 abbrev Inv-loop : tie.InvT-loop
-Inv-loop named lent input n at₀ at = (length input ≡ 65536) × (n ≤ 65536)
+Inv-loop named place input n at₀ at = (length input ≡ 65536) × (n ≤ 65536)
 
 abbrev μ-loop : tie.MeasureT-loop
-μ-loop named lent input n at₀ at = n - at
+μ-loop named place input n at₀ at = n - at
 
 large-buffer-requires : tie.Need-large-buffer-requires Inv-loop μ-loop
 large-buffer-requires c κs = search needs

@@ -1,4 +1,4 @@
-use Rattle.reads.proofs.TakeLaws.{take-laws, take-left}
+use Rattle.reads.proofs.TakeLaws.{take-laws, take-left, more-fits-in}
 use borrow.Author.Needs.{needs}
 use Rattle.reads.proofs.take.take_lent.Statement.{statement}
 use Rattle.reads.proofs.take.take_lent.Tie as tie
@@ -20,6 +20,15 @@ same-length c = search needs
 
 returns : tie.Need-returns
 returns c = (search take-laws, search take-left)
+
+cast-state-at : tie.Need-cast-state-at
+cast-state-at c = search needs
+
+state-at-requires : tie.Need-state-at-requires
+state-at-requires c κs = search needs
+
+record-given-requires : tie.Need-record-given-requires
+record-given-requires c κs = λ h. search more-fits-in
 
 cast-put-state : tie.Need-cast-put-state
 cast-put-state c = search needs
@@ -43,6 +52,9 @@ take-lent-spec =
     takes-requires
     same-length
     returns
+    cast-state-at
+    state-at-requires
+    record-given-requires
     cast-put-state
     put-state-requires
     same-length-2
