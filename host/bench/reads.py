@@ -8,9 +8,9 @@ caller and is compiled into it (crates/turns_by_value, crates/turns_in_place); a
 over what is lent of it, all three ways in one program, so that the cores of open and take have two
 callers each and stand apart (crates/turns_every_way).  The core alone is called from C over what it is
 lent (reads_lent.c).  Each is timed as a process with an empty run subtracted, all of them in turn in
-every round.  A turn opens a read and takes it whole, or withdraws it.  Printed are medians over the
-rounds: times for one of plain C's, what one more open read costs a scan, and how a turn grows with the
-reads open and with the turns before.
+every round, on one processor.  A turn opens a read and takes it whole, or withdraws it.  Printed are
+medians over the rounds: times for one of plain C's, what one more open read costs a scan, and how a turn
+grows with the reads open and with the turns before.
 
     host/bench/reads.py [ROUNDS] [--beside TREE]
 
@@ -19,6 +19,7 @@ Exits with 1 where two programs disagree, and with 2 where an aim is missed.
 """
 
 import argparse
+import os
 import statistics
 import subprocess
 import sys
@@ -203,6 +204,7 @@ def print_scan(measured):
 
 def main(count, beside):
     """Print the tables; 2 where an aim is missed."""
+    os.sched_setaffinity(0, {max(os.sched_getaffinity(0))})
     with tempfile.TemporaryDirectory() as folder:
         programs = build(Path(folder))
         if beside:
@@ -226,7 +228,7 @@ def main(count, beside):
 
 if __name__ == "__main__":
     parser = argparse.ArgumentParser(description="Measures the proved table beside plain C ones.")
-    parser.add_argument("rounds", nargs="?", type=int, default=9)
+    parser.add_argument("rounds", nargs="?", type=int, default=15)
     parser.add_argument("--beside", type=Path, metavar="TREE", help="a checkout with room for 32 tags, built")
     options = parser.parse_args()
     sys.exit(main(options.rounds, options.beside))
