@@ -1,7 +1,7 @@
 -- Laws of the rules of continuing, in the words of the returns.
 use Prim.Native.Nat.{ℕ, zero, suc, _+_, _-_, _*_, _%_, _^_, _≤_, _<_}
 use mathlib.Core.Path.{_≡_, refl, sym, ap, _∙_}
-use mathlib.Core.Bool.{Bool, true, false, _||_, _&&_, not}
+use mathlib.Core.Bool.{Bool, true, false, not}
 use native.Mathlib.Omega.{arith}
 use native.Mathlib.Nat.{add-mod, mod-lt, mod-zero}
 use lib.Dec.{eqb, leb}
@@ -12,7 +12,7 @@ use Rattle.byte_enables.specs.Enables.{off, trail, total}
 use Rattle.read_rules.specs.declared.validity.Read.{Read}
 use Rattle.read_rules.specs.declared.piece.Piece.{Piece}
 use Rattle.read_rules.specs.declared.continuation.Origin.{Origin}
-use Rattle.read_rules.specs.Continuations.{byteCountAt, lowerAddressAt, cutAllowed, legal, succeeds, statusBad, differs, reported}
+use Rattle.read_rules.specs.Continuations.{byteCountAt, lowerAddressAt, cutAllowed, legal, statusBad, differs, reported}
 
 -- ---- Byte Count and Lower Address
 

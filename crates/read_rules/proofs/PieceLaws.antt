@@ -10,7 +10,6 @@ use Rattle.tlp.specs.declared.packet.Kind.{Kind}
 use Rattle.tlp.specs.declared.packet.Packet.{Packet}
 use Rattle.tlp.specs.declared.packet_type.PacketType.{PacketType}
 use Rattle.read_rules.specs.Pieces.{headerIn, pieceOf}
-use Rattle.read_rules.specs.declared.piece.Piece.{Piece}
 
 pub header-case : (k v : Kind) (c : CompletionHeader) → k ≡ v → c ≡ headerIn v → c ≡ headerIn k
 header-case k v c e q = rw e q

@@ -3,7 +3,7 @@ use text::fields::Field;
 use text::fields::decimal_after;
 use text::fields::key_after;
 use text::fields::line_start;
-ghost use Prim.Native.Nat.{_≤_, _<_};
+ghost use Prim.Native.Nat.{_≤_};
 
 // What is to be done: whether a turn takes its read or withdraws it, how many other reads are open, the read's size in bytes, its tag, and how many
 // turns.

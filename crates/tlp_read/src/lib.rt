@@ -15,10 +15,8 @@ use tlp::settings::Settings;
 use tlp::settings::settings_listed;
 use tlp::size::data_bytes;
 ghost use mathlib.Core.Path.{_≡_};
-ghost use Prim.Native.Nat.{ℕ, _+_, _-_, _*_, _≤_, _<_, min};
-ghost use mathlib.Core.Bool.{not};
-ghost use lib.Dec.{eqb};
-ghost use lib.ListN.{length, take, drop};
+ghost use Prim.Native.Nat.{_+_, _-_, _*_, _<_};
+ghost use lib.ListN.{length};
 ghost use Rattle.tlp.specs.Rows.{first};
 ghost use Rattle.tlp_read.specs.Read.{readRows, readPacket, payloadOf};
 
