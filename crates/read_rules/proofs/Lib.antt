@@ -1,5 +1,4 @@
-mod RequestLaws
+pub mod RequestLaws
 mod WindowLaws
 mod PieceLaws
 mod ContinuationLaws
-pub mod AsWriter

@@ -7,8 +7,10 @@ use lib.Dec.{eqb, leb, ltb}
 use borrow.Author.Tests.{le-leb, lt-leb, leb-false, ltb-false}
 use Rattle.bits.specs.Choice.{pick}
 use Rattle.tlp.specs.Rows.{first}
-use Rattle.tlp.specs.PacketTypes.{familyOf, isIoOrConfig}
+use Rattle.tlp.specs.PacketTypes.{familyOf, isIoOrConfig, hasData}
 use Rattle.tlp.specs.Packets.{typeOf}
+use Rattle.tlp.specs.Sizes.{dataBytes}
+use Rattle.tlp.specs.declared.packet_type.Family.the-variants.{Memory}
 use Rattle.tlp.specs.declared.packet_type.PacketType.the-variants.{MRd32, MRd64}
 use Rattle.tlp.specs.Contents.{crossesPage, enablesBad, pageBad}
 use Rattle.tlp_given.specs.Given.{lengthBad, commonBad, requestBad, ownBad, reservedGiven, addressRouteBad, routeBad}
@@ -51,6 +53,16 @@ module _ (q : ReadRequest) where
   given-law r h e =
       rw (lt-leb (2 ^ 64) (q .access .address) h, plain-form)
       (e ∙ sym (six (leb 8 (q .«traffic_class»)) (leb 8 (q .attributes)) (lengthBad (q .access .length)) (leb 16 (q .access .first)) (leb 16 (q .access .last)) unaligned false refl))
+
+-- what open writes is a memory request without data, in either form
+pub read-type : (requester tag : ℕ) (q : ReadRequest)
+    → (familyOf (typeOf (requestPacket requester tag q)) ≡ Memory) × ((n : ℕ) → dataBytes (typeOf (requestPacket requester tag q)) n ≡ 0)
+unfolding requestPacket typeOf dataBytes
+read-type requester tag q = go (ltb (q .access .address) (2 ^ 32))
+  where
+    go : (narrow : Bool) → (familyOf (pick narrow MRd32 MRd64) ≡ Memory) × ((n : ℕ) → pick (hasData (pick narrow MRd32 MRd64)) (4 * n) 0 ≡ 0)
+    go true = (refl, λ n. refl)
+    go false = (refl, λ n. refl)
 
 -- ---- validity
 

@@ -3,4 +3,3 @@ pub mod Windows
 pub mod Validity
 pub mod Pieces
 pub mod Continuations
-pub mod AsWriter

@@ -18,7 +18,7 @@ use Rattle.tlp_write.specs.declared.WriteAnswer.the-variants.{Written, Refused 
 use Rattle.tlp.specs.declared.packet.Packet.{Packet}
 use Rattle.tlp.specs.declared.refusal.Refusal.{Refusal}
 use Rattle.read_rules.specs.declared.request.ReadRequest.{ReadRequest}
-use Rattle.read_rules.proofs.AsWriter.{read-type}
+use Rattle.read_rules.proofs.RequestLaws.{read-type}
 use Rattle.read_rules.specs.declared.continuation.Origin.{Origin}
 use Rattle.read_slots.specs.declared.State.{State}
 use Rattle.read_slots.specs.declared.State.the-variants.{Open}

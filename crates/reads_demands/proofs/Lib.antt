@@ -1,3 +1,4 @@
+pub mod AsWriter
 pub mod Tests
 pub mod PieceSizes
 pub mod CleanPieces

@@ -1,4 +1,5 @@
 pub mod History
+pub mod AsWriter
 pub mod Demand1
 pub mod Demand2
 pub mod Demand3

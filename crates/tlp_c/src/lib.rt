@@ -1,19 +1,13 @@
 // The C face: reader and writer over numbers and byte slices. docs/RECORD.md lists the record's layout.
-mod lay;
-
-use bits::word::byte_at;
-use tlp::packet_type::family_by_type;
 use tlp::settings::Settings;
-use tlp_read::fields::digest_word;
-use tlp_read::read_number;
+use tlp_record_read::read_record;
 use tlp_record_write::write_record;
 use tlp_write::WriteAnswer;
 ghost use mathlib.Core.Path.{_≡_};
-ghost use mathlib.Core.List.{_++_};
-ghost use Prim.Native.Nat.{ℕ};
-ghost use lib.ListN.{length, drop};
+ghost use lib.ListN.{length};
 ghost use Rattle.tlp_read.specs.Read.{readPacket};
-ghost use Rattle.tlp_c.specs.Calls.{settingsOf, readNumber, readRecord, writeNumber, writtenSize};
+ghost use Rattle.tlp_c.specs.Calls.{settingsOf, writeNumber, writtenSize};
+ghost use Rattle.tlp_record_read.specs.RecordRead.{readNumber, readRecord};
 ghost use Rattle.tlp_record_write.specs.RecordWrite.{recordOut};
 
 // Reads a packet. Answers 0 with the packet's record over the front of record, or the number of the refusal with record as it was.
@@ -33,17 +27,7 @@ pub extern "C" fn tollpebble_read(
         mrrs: mrrs,
         rcb: rcb,
     };
-    let n = read_number(settings, packet);
-    if n != 0 {
-        return n;
-    }
-    if record.len() < 48 {
-        return 12;
-    }
-    let digest = digest_word(packet);
-    let f = family_by_type(byte_at(packet, 0));
-    lay::put_record(f, digest, packet, record);
-    0
+    read_record(settings, packet, record)
 }
 
 // Writes the packet that record describes, with its payload, over the front of out. Answers 0 with the packet's size in size, or the number of the

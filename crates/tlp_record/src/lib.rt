@@ -1,4 +1,4 @@
-// The packet record: a packet as 48 bytes, and back. What it is stands in specs/; crate tlp_c lays it, crate tlp_record_write reads it.
+// The packet record: a packet as 48 bytes, and back. What it is stands in specs/; crate tlp_record_read lays it, crate tlp_record_write reads it.
 // A kind's number and its own fields, each 0 where the kind has none.
 pub struct OwnFields {
     pub kind: u8,

@@ -1,0 +1,18 @@
+-- Document 01, open: "6, 7, 8 as the writer", and 12: they are the numbers that the writer gives for the packet whose header open writes, with no payload.
+use Prim.Native.Nat.{ℕ, _^_, _<_}
+use mathlib.Core.Path.{_≡_}
+use mathlib.Core.Bool.{true}
+use mathlib.Core.List.{[], _∷_, _++_}
+use lib.Dec.{ltb}
+use Rattle.tlp.specs.Rows.{row, first}
+use Rattle.tlp.specs.Settings.{settingsListed}
+use Rattle.tlp.specs.declared.settings.Settings.{Settings}
+use Rattle.tlp_write.specs.Layout.{sizeOf}
+use Rattle.tlp_write.specs.Write.{writeRows}
+use Rattle.read_rules.specs.declared.request.ReadRequest.{ReadRequest}
+use Rattle.read_rules.specs.Requests.{requestPacket, requestRows}
+
+-- for every request, listed settings, "one 16-bit requester ID", a tag of 8 bits, and an output of space bytes
+abbrev pub AsWriter : Type 0
+AsWriter = (s : Settings) (requester tag : ℕ) (q : ReadRequest) (space : ℕ) → settingsListed s ≡ true → requester < 2 ^ 16 → tag < 2 ^ 8
+    → first (writeRows s (requestPacket requester tag q) 0 space) ≡ first (requestRows q ++ (row 12 (ltb space (sizeOf (requestPacket requester tag q))) ∷ []))

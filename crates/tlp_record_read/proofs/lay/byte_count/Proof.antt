@@ -1,0 +1,24 @@
+use Rattle.tlp_record_read.proofs.LayLaws.{count-of}
+use borrow.Author.Needs.{needs}
+use Rattle.tlp_record_read.proofs.lay.byte_count.Statement.{statement}
+use Rattle.tlp_record_read.proofs.lay.byte_count.Tie as tie
+
+byte-at-requires : tie.Need-byte-at-requires
+byte-at-requires c κs = search needs
+
+byte-at-requires-2 : tie.Need-byte-at-requires-2
+byte-at-requires-2 c κs = search needs
+
+join-count-requires : tie.Need-join-count-requires
+join-count-requires c κs = search needs
+
+or-most-requires : tie.Need-or-most-requires
+or-most-requires c κs = search needs
+
+returns : tie.Need-returns
+returns c = search count-of
+
+pub byte-count-spec : {M : Type 1} → statement M
+byte-count-spec =
+    tie.close
+    (tie.spec byte-at-requires byte-at-requires-2 join-count-requires or-most-requires returns)

@@ -1,0 +1,33 @@
+use Rattle.tlp_record_read.proofs.LayLaws.{request-law}
+use borrow.Author.Needs.{needs}
+use Rattle.tlp_record_read.proofs.lay.lay_request.Statement.{statement}
+use Rattle.tlp_record_read.proofs.lay.lay_request.Tie as tie
+
+byte-at-requires : tie.Need-byte-at-requires
+byte-at-requires c κs = search needs
+
+lay-sizes-requires : tie.Need-lay-sizes-requires
+lay-sizes-requires c κs = search needs
+
+word16-requires : tie.Need-word16-requires
+word16-requires c κs = search needs
+
+lay-count-requires : tie.Need-lay-count-requires
+lay-count-requires c κs = search needs
+
+same-length : tie.Need-same-length
+same-length c = search needs
+
+returns : tie.Need-returns
+returns c = search request-law
+
+pub lay-request-spec : {M : Type 1} → statement M
+lay-request-spec =
+    tie.close
+    (tie.spec
+    byte-at-requires
+    lay-sizes-requires
+    word16-requires
+    lay-count-requires
+    same-length
+    returns)
