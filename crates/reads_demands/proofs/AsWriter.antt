@@ -41,6 +41,7 @@ module _ (requester tag : ℕ) (q : ReadRequest) where
   unfolding first requestPacket commonBad ownBad requestBad reservedGiven typeOf routeBad
   same-given r t = rw (lt-leb (2 ^ 16) requester r, lt-leb (2 ^ 8) tag t)
 
+  -- a read has no data, so 3, 5 and the second 6 do not come
   same-later : (s : Settings) (space : ℕ)
       → first (laterRows s packet 0 space) ≡ first (row 7 (enablesBad Memory (q .access)) ∷ row 8 (pageBad Memory (q .access)) ∷ row 12 (ltb space (sizeOf packet)) ∷ [])
   same-later s space = let k = read-type requester tag q in rw (k .1 (accessOf packet .length), le-ltb (s .mps) 0 zero-le, k .0) (unfold first plainBad requestPacket accessOf in refl)

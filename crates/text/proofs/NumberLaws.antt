@@ -13,7 +13,8 @@ use borrow.Author.Tests.{lt-ltb, le-ltb, le-leb, lt-leb, ltb-true, ltb-false, no
 use Rattle.bits.specs.Choice.{pick}
 use Rattle.text.specs.Digit.{hexValue, hexDigit, allDigits}
 use Rattle.bits.specs.Put.{put}
-use Rattle.text.specs.Number.{valueFrom, plain, plainly, empty, numberIn, digits, countTo, digitCount}
+use Rattle.text.specs.Number.{valueFrom, plain, plainly, empty, numberIn, digits, countTo, digitCount, plainText}
+use Rattle.text.specs.Laid.{laid, after}
 use Rattle.text.specs.declared.number.Parsed.{Parsed}
 use Rattle.text.specs.declared.number.Parsed.the-variants.{Number, Bad}
 use Rattle.text.proofs.Order.{leb-iff}
@@ -157,6 +158,15 @@ module _ (base w at i m : ℕ) (out whole : List ℕ) (q : put at (digits base (
       lay-last at (i - 1) d (digits base k (m / base)) out whole (omega (arith, length-digits base k (m / base))) (omega arith) (rw f (rw r at q))
 
 pub ruleset lay-laws = (lay-start, lay-done, lay-next)
+
+-- as many digits as the number has
+
+module _ (base n w at : ℕ) (out : List ℕ) (e : w ≡ digitCount base n) where
+  pub plain-after : (r : ℕ) → r ≡ after at (digits base w n) out → r ≡ after at (plainText base n) out
+  plain-after r h = rw e at h
+
+  pub plain-laid : (o : List ℕ) → o ≡ laid at (digits base w n) out → o ≡ laid at (plainText base n) out
+  plain-laid o h = rw e at h
 
 -- how many digits
 

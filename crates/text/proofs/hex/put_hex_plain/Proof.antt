@@ -1,3 +1,4 @@
+use Rattle.text.proofs.NumberLaws.{plain-after, plain-laid}
 use borrow.Author.Needs.{needs}
 use Rattle.text.proofs.hex.put_hex_plain.Statement.{statement}
 use Rattle.text.proofs.hex.put_hex_plain.Tie as tie
@@ -12,7 +13,7 @@ same-length : tie.Need-same-length
 same-length c = search needs
 
 returns : tie.Need-returns
-returns c = (cc, cc)
+returns c = (search plain-after, search plain-laid)
 
 pub put-hex-plain-spec : {M : Type 1} → statement M
 put-hex-plain-spec =
