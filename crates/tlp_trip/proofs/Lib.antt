@@ -13,3 +13,4 @@ pub mod ReadGiven
 pub mod ReadWrite
 pub mod ReservedFields
 pub mod ReservedIgnored
+pub mod RecordOfRead
