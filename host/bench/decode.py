@@ -29,7 +29,7 @@ import capture
 from make_vectors import packet
 
 DECODE = ROOT / "target" / "bin" / "decode"
-SOURCE = ROOT / "host" / "bench" / "decode_plain.c"
+SOURCE = ROOT / "host" / "second" / "decode_plain.c"
 
 CAPTURE_SIZE = 200_000_000
 DISTINCT_LINES = 12_000          # lines that differ in more than their time

@@ -4,9 +4,9 @@
 The calls are repeated inside programs that read the same lines and print the same.  Plain C keeps its
 reads in slots, scanned by index or by pointer, or in rows beside a set of tags (reads_turns.c).  The
 proved table is called by value and in place, each in a program of its own, so that the core has one
-caller and is compiled into it (crates/turns_by_value, crates/turns_in_place); and by value, in place and
+caller and is compiled into it (crates/bench_by_value, crates/bench_in_place); and by value, in place and
 over what is lent of it, all three ways in one program, so that the cores of open and take have two
-callers each and stand apart (crates/turns_every_way).  The core alone is called from C over what it is
+callers each and stand apart (crates/bench_every_way).  The core alone is called from C over what it is
 lent (reads_lent.c).  Each is timed as a process with an empty run subtracted, all of them in turn in
 every round, on one processor.  A turn opens a read and takes it whole, or withdraws it.  Printed are
 medians over the rounds: times for one of plain C's, what one more open read costs a scan, and how a turn
@@ -32,8 +32,9 @@ sys.dont_write_bytecode = True
 
 ROOT = Path(__file__).resolve().parent.parent.parent
 BENCH = ROOT / "host" / "bench"
-FLAGS = ("-std=c11", "-O2", "-Wall", "-Wextra", "-Werror")
-PLAIN = [BENCH / name for name in ("reads_turns.c", "reads_plain.c", "packet_plain.c")]
+SECOND = ROOT / "host" / "second"
+FLAGS = ("-std=c11", "-O2", "-Wall", "-Wextra", "-Werror", "-I", SECOND)
+PLAIN = [BENCH / "reads_turns.c", SECOND / "reads_plain.c", SECOND / "packet_plain.c"]
 
 MEASURED = 0.05                      # seconds of a measurement, about
 FEWEST, PROBED, MOST = 20_000, 100_000, 4_000_000            # turns
@@ -91,7 +92,7 @@ def compiled(path, *arguments):
 
 def build(folder):
     """The programs by name."""
-    run_checked(["rt", "check", "turns_by_value", "turns_in_place", "turns_every_way"],
+    run_checked(["rt", "check", "bench_by_value", "bench_in_place", "bench_every_way"],
                 "the proved programs are not proved or not built")
     run_checked(["rt", "staticlib", "bench_lent"], "the lent core is not proved or not built")
     proved = ROOT / "target" / "bin"
@@ -101,17 +102,17 @@ def build(folder):
         "set": compiled(folder / "set", "-DPLAIN_SET", *PLAIN),
         "core lent": compiled(folder / "core lent", BENCH / "reads_lent.c",
                               ROOT / "target" / "staticlib" / "libbench_lent.a"),
-        "by value": Program(proved / "turns_by_value"),
-        "in place": Program(proved / "turns_in_place"),
-        "by value, apart": Program(proved / "turns_every_way", "value "),
-        "in place, apart": Program(proved / "turns_every_way", "place "),
-        "core apart": Program(proved / "turns_every_way", "lent "),
+        "by value": Program(proved / "bench_by_value"),
+        "in place": Program(proved / "bench_in_place"),
+        "by value, apart": Program(proved / "bench_every_way", "value "),
+        "in place, apart": Program(proved / "bench_every_way", "place "),
+        "core apart": Program(proved / "bench_every_way", "lent "),
     }
 
 
 def build_beside(tree, folder):
     """The programs of a tree with room for 32 tags, whose lines say no tag, and plain C with that room."""
-    value, place = (tree / "target" / "bin" / name for name in ("turns_by_value", "turns_in_place"))
+    value, place = (tree / "target" / "bin" / name for name in ("bench_by_value", "bench_in_place"))
     if not (value.exists() and place.exists()):
         sys.exit("reads: the programs of %s are not built" % tree)
     return {"32 slots": compiled(folder / "32 slots", "-DPLAIN_SLOTS=32", *PLAIN),

@@ -1,5 +1,5 @@
-/* Turns of calls on a table of reads_plain.h, to be timed beside crates/turns_by_value and
- * crates/turns_in_place: the same lines of input, and the same lines of output.
+/* Turns of calls on a table of reads_plain.h, to be timed beside crates/bench_by_value and
+ * crates/bench_in_place: the same lines of input, and the same lines of output.
  *
  *     take|withdraw others=N size=N tag=N turns=N
  *

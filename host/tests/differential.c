@@ -1,5 +1,5 @@
 /* Compares the library's reader and writer with plain C ones, written on their own from the
- * specification (host/bench/packet_plain.c), on packets and records at random: good ones, damaged
+ * specification (host/second/packet_plain.c), on packets and records at random: good ones, damaged
  * ones and mere bytes.
  *
  *     differential [CALLS [SEED]]       so many packets read and as many records written; 1,000,000

@@ -1,4 +1,4 @@
-"""Holds the plain C decoder (host/bench/decode_plain.c) to the second one on the stored captures.
+"""Holds the plain C decoder (host/second/decode_plain.c) to the second one on the stored captures.
 
 It is what the proved decoder is measured against, so it must do the same work.  It is built three
 times: with small blocks, so that lines are cut at many places, and as it is measured.  Prints one
@@ -21,7 +21,7 @@ import checks
 import make_captures
 from checks import require
 
-SOURCE = ROOT / "host" / "bench" / "decode_plain.c"
+SOURCE = ROOT / "host" / "second" / "decode_plain.c"
 FLAGS = ("-O2", "-Wall", "-Wextra", "-Werror")
 BLOCKS = (1, 61, None)           # None: the size that the source has
 

@@ -1,4 +1,4 @@
-"""Holds the plain C tables (host/bench/reads_plain.c) to the second one on the stored script of calls.
+"""Holds the plain C tables (host/second/reads_plain.c) to the second one on the stored script of calls.
 
 They are what the proved table is measured against, so they must do the same work.  Each form is built as
 a shared library and put in the second table's place in the console that runs the script; every line must
@@ -22,8 +22,8 @@ import checks
 import reads
 from checks import require
 
-BENCH = ROOT / "host" / "bench"
-SOURCES = (BENCH / "reads_plain.c", BENCH / "packet_plain.c")
+SECOND = ROOT / "host" / "second"
+SOURCES = (SECOND / "reads_plain.c", SECOND / "packet_plain.c")
 FLAGS = ("-std=c11", "-O2", "-Wall", "-Wextra", "-Wpedantic", "-Wconversion", "-Wshadow", "-Werror")
 FORMS = {"256 slots": "-DPLAIN_SLOTS=256", "32 slots": "-DPLAIN_SLOTS=32",
          "256 slots by pointer": "-DPLAIN_BY_POINTER", "a set": "-DPLAIN_SET"}

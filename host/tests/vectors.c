@@ -2,7 +2,7 @@
  * standard input to standard output:
  *
  *     vectors library    by the library
- *     vectors plain      by the plain C reader and writer, host/bench/packet_plain.c
+ *     vectors plain      by the plain C reader and writer, host/second/packet_plain.c
  */
 #include <inttypes.h>
 #include <stdio.h>

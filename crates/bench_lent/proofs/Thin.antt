@@ -3,10 +3,10 @@ use Prim.Native.Nat.{ℕ, _%_, _^_}
 use mathlib.Core.Path.{_≡_, refl, ap, _∙_}
 use mathlib.Core.List.{List}
 use lib.ListN.{getD}
-use Rattle.read_rules.specs.declared.continuation.Origin.{Origin}
-use Rattle.read_rules.specs.declared.validity.Read.{Read}
-use Rattle.read_words.specs.Words.{readOf}
-use Rattle.read_answers.specs.declared.TakeAnswer.{TakeAnswer}
+use Rattle.reads_rules.specs.declared.origin.Origin.{Origin}
+use Rattle.reads_rules.specs.declared.read.Read.{Read}
+use Rattle.reads_words.specs.Words.{readOf}
+use Rattle.reads_answers.specs.declared.TakeAnswer.{TakeAnswer}
 use Rattle.reads.specs.declared.answer.OpenAnswer.{OpenAnswer}
 use Rattle.reads.specs.declared.answer.WithdrawAnswer.{WithdrawAnswer}
 use Rattle.reads.specs.declared.table.Opening.{Opening}

@@ -2,11 +2,11 @@
 use Prim.Native.Nat.{ℕ, _%_, _^_}
 use mathlib.Core.List.{List}
 use lib.ListN.{getD}
-use Rattle.read_rules.specs.declared.request.ReadRequest.{ReadRequest}
-use Rattle.read_rules.specs.declared.continuation.Origin.{Origin}
-use Rattle.read_words.specs.Words.{readOf}
-use Rattle.read_answers.specs.declared.TakeAnswer.{TakeAnswer}
-use Rattle.read_answers.specs.declared.TakeAnswer.the-variants.{More, Done, Failed, Poisoned, Unread, Refused}
+use Rattle.reads_rules.specs.declared.request.ReadRequest.{ReadRequest}
+use Rattle.reads_rules.specs.declared.origin.Origin.{Origin}
+use Rattle.reads_words.specs.Words.{readOf}
+use Rattle.reads_answers.specs.declared.TakeAnswer.{TakeAnswer}
+use Rattle.reads_answers.specs.declared.TakeAnswer.the-variants.{More, Done, Failed, Poisoned, Unread, Refused}
 
 -- MPS, MRRS, RCB and, in its low 16 bits, the requester ID
 unfoldable pub originIn : List ℕ → Origin

@@ -1,15 +1,15 @@
 // The cores of the table's calls for C, to be timed beside a plain C table. All is the caller's memory: what the table is made from (MPS, MRRS, RCB,
 // requester ID), its set and its words, and a request in the form of a tag's words.
-use read_answers::TakeAnswer;
-use read_rules::continuation::Origin;
-use read_words::tag_set::TagSet;
-use read_words::words::Words;
-use read_words::words::read_of;
 use reads::answer::OpenAnswer;
 use reads::answer::WithdrawAnswer;
 use reads::open::open_lent;
 use reads::table::withdraw_lent;
 use reads::take::take_lent;
+use reads_answers::TakeAnswer;
+use reads_rules::origin::Origin;
+use reads_words::tag_set::TagSet;
+use reads_words::words::Words;
+use reads_words::words::read_of;
 use tlp::settings::Settings;
 ghost use mathlib.Core.Path.{_≡_};
 ghost use lib.ListN.{length};

@@ -1,6 +1,6 @@
 // What a script works on.
-use read_rules::continuation::Origin;
 use reads::table::Table;
+use reads_rules::origin::Origin;
 use tlp::settings::Settings;
 
 // Room for the longest store.

@@ -1,13 +1,13 @@
 // What a line prints: a text in a buffer, written whole with its newline.
 use byte_enables::Access;
-use read_answers::TakeAnswer;
-use read_rules::request::ReadRequest;
-use read_rules::validity::Read;
-use read_slots::State;
 use reads::answer::MakeAnswer;
 use reads::answer::OpenAnswer;
 use reads::answer::OwedAnswer;
 use reads::answer::WithdrawAnswer;
+use reads_answers::TakeAnswer;
+use reads_rules::read::Read;
+use reads_rules::request::ReadRequest;
+use reads_slots::State;
 use text::decimal::put_decimal;
 use text::hex::put_hex;
 use text::hex::put_hex_fixed;

@@ -15,7 +15,7 @@ use Rattle.tlp.specs.declared.packet.Packet.{Packet}
 use Rattle.tlp.specs.declared.packet_type.PacketType.{PacketType}
 use Rattle.tlp.specs.declared.packet_type.PacketType.the-variants.{MRd32, MRd64, MWr32, MWr64, IORd, IOWr, CfgRd0, CfgWr0, CfgRd1, CfgWr1, Msg, MsgD, Cpl, CplD, Unlisted}
 use Rattle.tlp_read.specs.Fields.{packetAt, attributesAt, requestAt, configAt, messageAt, completionAt, messageRouteAt, routeAt, kindAt}
-use Rattle.tlp_read.specs.Read.{judgeRows, readRows, answerOf, readPacket, hintsBad, routingBad, formBad}
+use Rattle.tlp_read.specs.Read.{judgeRows, readRows, answerOf, readPacket, hintOrAddressTypeSet, routingBad, formBad}
 use Rattle.capture_print.specs.Outputs.{packetOutput, outputLine}
 use Rattle.capture.specs.Decode.{refusedCount}
 
@@ -104,7 +104,7 @@ module _ (s z : List ℕ) (taken : take 16 z ≡ take 16 s) where
   -- ---- the rows, and what is printed
 
   judge-front : (mps : ℕ) (t : PacketType) → judgeRows mps t z ≡ judgeRows mps t s
-  unfolding packetAt accessOf hintsBad routingBad formBad
+  unfolding packetAt accessOf hintOrAddressTypeSet routingBad formBad
   judge-front mps t =
       rw (byte-front 0 (omega arith), byte-front 1 (omega arith), byte-front 2 (omega arith), word-front 4 8 (omega arith), attributes-front t, route-front t, kind-front t)
 

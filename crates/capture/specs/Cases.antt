@@ -19,7 +19,7 @@ use Rattle.tlp.specs.Packets.{typeOf, accessOf}
 use Rattle.tlp.specs.Sizes.{orMost, lengthAt, digestAt, dataBytes, digestBytes, bytesCalled}
 use Rattle.tlp.specs.Contents.{notPlain, plainBad, enablesBad, pageBad}
 use Rattle.tlp_read.specs.Fields.{attributesAt, digestWord, requestAt, configAt, messageAt, completionAt, implicitAt, messageRouteAt, routeAt, kindAt, packetAt}
-use Rattle.tlp_read.specs.Read.{hintsBad, routingBad, formBad, readPacket}
+use Rattle.tlp_read.specs.Read.{hintOrAddressTypeSet, routingBad, formBad, readPacket}
 use Rattle.capture_print.specs.Words.{newline}
 use Rattle.text.specs.Letters.{lettersFrom, letters}
 use Rattle.capture_lines.specs.Lines.{completeLines, lineWith, unended, tailWith, overLong}
@@ -142,7 +142,7 @@ pub inputs-decoded : map decodeText
     ∷ ended ("code=11" ∷ [])
     ∷ ended ("code=11" ∷ [])
     ∷ []
-unfolding decodeText textDecoded headerRead linesDecoded tailDecoded lineRead completeLines lineWith unended tailWith overLong codeLine packetOutput outputLine totalsLine headerLine headerGood packetLine frontOf directionAfter decimalAfter hexAfter keyAfter valueAt startsWith beginsWith wordEnd wordLength plainly plain numberIn hexNumber empty allDigits hexValue valueFrom bytesSpelled pairs digits countTo hexDigit settingsListed readPacket first typeAt typeOf accessOf enablesAllowed orMost lengthAt digestAt dataBytes digestBytes bytesCalled notPlain plainBad enablesBad pageBad attributesAt digestWord requestAt configAt messageAt completionAt implicitAt messageRouteAt routeAt kindAt packetAt hintsBad routingBad formBad lettersFrom
+unfolding decodeText textDecoded headerRead linesDecoded tailDecoded lineRead completeLines lineWith unended tailWith overLong codeLine packetOutput outputLine totalsLine headerLine headerGood packetLine frontOf directionAfter decimalAfter hexAfter keyAfter valueAt startsWith beginsWith wordEnd wordLength plainly plain numberIn hexNumber empty allDigits hexValue valueFrom bytesSpelled pairs digits countTo hexDigit settingsListed readPacket first typeAt typeOf accessOf enablesAllowed orMost lengthAt digestAt dataBytes digestBytes bytesCalled notPlain plainBad enablesBad pageBad attributesAt digestWord requestAt configAt messageAt completionAt implicitAt messageRouteAt routeAt kindAt packetAt hintOrAddressTypeSet routingBad formBad lettersFrom
 inputs-decoded = refl
 
 -- "at most 8,267 bytes with its newline"

@@ -9,7 +9,7 @@ use lib.Dec.{eqb, leb}
 use borrow.Author.Tests.{leb-true, eqb-true, eqb-false, eq-eqb, ne-eqb}
 use Rattle.bits.specs.Choice.{pick}
 use Rattle.byte_enables.specs.declared.Access.{Access}
-use Rattle.read_rules.specs.Continuations.{cutAllowed}
+use Rattle.reads_rules.specs.Continuations.{cutAllowed}
 use Rattle.cuttings.specs.Rows.{rowFrom, lawfulRow, startingWith, rowsFrom, cuttings, Member, CuttingsExact}
 
 -- ---- what is in a list that is joined, and in one whose rows all begin with n

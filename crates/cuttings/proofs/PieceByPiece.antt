@@ -4,11 +4,11 @@ use mathlib.Core.Path.{_≡_, refl}
 use mathlib.Core.Bool.{Bool, true, false, _&&_, and-false, and-true}
 use mathlib.Core.List.{List, [], _∷_}
 use lib.Dec.{eqb, leb}
-use Rattle.read_rules.specs.declared.request.ReadRequest.{ReadRequest}
-use Rattle.read_rules.specs.declared.continuation.Origin.{Origin}
-use Rattle.read_rules.specs.Continuations.{byteCountAt, lowerAddressAt, cutAllowed, legal}
+use Rattle.reads_rules.specs.declared.request.ReadRequest.{ReadRequest}
+use Rattle.reads_rules.specs.declared.origin.Origin.{Origin}
+use Rattle.reads_rules.specs.Continuations.{byteCountAt, lowerAddressAt, cutAllowed, legal}
 use Rattle.cuttings.specs.Rows.{rowFrom, lawfulRow}
-use Rattle.cuttings.specs.Lawful.{pieceIn, after, cleanPacket, lawfulFrom, lengthsOf, cleanFrom, fieldsFrom, lawfulCutting, PieceByPiece}
+use Rattle.cuttings.specs.Lawful.{pieceIn, takenTo, cleanPacket, lawfulFrom, lengthsOf, cleanFrom, fieldsFrom, lawfulCutting, PieceByPiece}
 
 -- clean, cut, within MPS, byte count and lower address of the first piece; clean, row and fields of the later ones
 sorted : (c k m b a cs r f : Bool) → (c && cs) && ((k && (m && r)) && (b && (a && f))) ≡ c && ((k && (b && a)) && (m && (cs && (r && f))))
@@ -25,7 +25,7 @@ unfolding cleanFrom rowFrom fieldsFrom lengthsOf lawfulFrom legal
 by-pieces o tag q p [] = and-true (eqb p (q .access .length))
 by-pieces o tag q p (b ∷ bs) =
     rw (← (by-pieces o tag q (p + pieceIn b .length) bs))
-    (sorted (cleanPacket o tag (after q p) b) (cutAllowed (o .settings .rcb) (q .access) p (pieceIn b .length)) (leb (4 * pieceIn b .length) (o .settings .mps))
+    (sorted (cleanPacket o tag (takenTo q p) b) (cutAllowed (o .settings .rcb) (q .access) p (pieceIn b .length)) (leb (4 * pieceIn b .length) (o .settings .mps))
     (eqb (pieceIn b .header .«byte_count») (byteCountAt (q .access) p)) (eqb (pieceIn b .header .«lower_address») (lowerAddressAt (q .access) p))
     (cleanFrom o tag q (p + pieceIn b .length) bs) (rowFrom (q .access) (o .settings .mps) (o .settings .rcb) (p + pieceIn b .length) (lengthsOf bs)) (fieldsFrom (q .access) (p + pieceIn b .length) bs))
 

@@ -9,7 +9,7 @@ use Rattle.bits.specs.Word.{byte}
 use Rattle.bits.specs.Count.{clearBelow, clearAbove}
 use Rattle.byte_enables.specs.declared.Access.{Access}
 use Rattle.byte_enables.specs.Enables.{enablesAllowed, off, trail, total, enablesAt, enabled}
-use Rattle.scan.specs.Merges.{merged}
+use Rattle.scans.specs.Merges.{merged}
 use Rattle.tlp.specs.Rows.{first}
 use Rattle.tlp.specs.Settings.{settingsListed}
 use Rattle.tlp.specs.PacketTypes.{typeAt}
@@ -22,18 +22,18 @@ use Rattle.tlp.specs.declared.packet.Route.the-variants.{Id}
 use Rattle.tlp.specs.declared.packet.Kind.the-variants.{CompletionData}
 use Rattle.tlp.specs.declared.packet.Packet.{Packet}
 use Rattle.tlp_read.specs.Fields.{requestAt, routeAt, kindAt, packetAt}
-use Rattle.tlp_read.specs.Read.{hintsBad, routingBad, formBad, readRows}
-use Rattle.tlp_given.specs.Given.{commonBad, requestBad, ownBad, reservedGiven, addressRouteBad, routeBad}
+use Rattle.tlp_read.specs.Read.{hintOrAddressTypeSet, routingBad, formBad, readRows}
+use Rattle.tlp_writable.specs.Given.{commonBad, requestBad, ownBad, reservedGiven, addressRouteBad, routeBad}
 use Rattle.tlp_write.specs.Layout.{routingIn, memoryAddress, ownBytes, frontBytes, headerOf, sizeOf}
 use Rattle.tlp_write.specs.Write.{writeRows}
-use Rattle.read_rules.specs.declared.request.ReadRequest.{ReadRequest}
-use Rattle.read_rules.specs.declared.piece.Piece.{Piece}
-use Rattle.read_rules.specs.Requests.{requestPacket, givenBad, requestRows}
-use Rattle.read_rules.specs.Windows.{holdsWindow}
-use Rattle.read_rules.specs.Continuations.{byteCountAt, lowerAddressAt, cutAllowed, legal, statusBad, differs}
-use Rattle.read_store.specs.Stores.{stored}
-use Rattle.read_slots.specs.declared.State.the-variants.{Open}
-use Rattle.read_answers.specs.Takes.{pieceRows}
+use Rattle.reads_rules.specs.declared.request.ReadRequest.{ReadRequest}
+use Rattle.reads_rules.specs.declared.piece.Piece.{Piece}
+use Rattle.reads_rules.specs.Requests.{requestPacket, givenBad, requestRows}
+use Rattle.reads_rules.specs.Windows.{holdsWindow}
+use Rattle.reads_rules.specs.Continuations.{byteCountAt, lowerAddressAt, cutAllowed, legal, statusBad, differs}
+use Rattle.reads_store.specs.Stores.{stored}
+use Rattle.reads_slots.specs.declared.State.the-variants.{Open}
+use Rattle.reads_answers.specs.Takes.{pieceRows}
 use Rattle.cuttings.specs.Rows.{rowsFrom, cuttings}
 
 -- what an edge says of its read
@@ -181,7 +181,7 @@ allHold (e ∷ es) = claimsHold (e .access) (e .claims) && allHold es
 
 pub edges-hold : allHold edges ≡ true
 unfolding first settingsListed typeAt typeOf accessOf enablesAllowed off trail total enablesAt enabled clearBelow clearAbove orMost lengthAt digestAt dataBytes
-    digestBytes bytesCalled plainBad enablesBad pageBad requestAt routeAt kindAt packetAt hintsBad routingBad formBad commonBad requestBad ownBad reservedGiven
+    digestBytes bytesCalled plainBad enablesBad pageBad requestAt routeAt kindAt packetAt hintOrAddressTypeSet routingBad formBad commonBad requestBad ownBad reservedGiven
     addressRouteBad routeBad routingIn memoryAddress ownBytes frontBytes headerOf sizeOf requestPacket givenBad holdsWindow byteCountAt lowerAddressAt cutAllowed legal
     statusBad differs merged stored rowsFrom cuttings
 edges-hold = refl

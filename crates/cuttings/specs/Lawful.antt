@@ -11,12 +11,12 @@ use Rattle.tlp.specs.PacketTypes.{typeAt}
 use Rattle.tlp.specs.declared.packet.Packet.{Packet}
 use Rattle.tlp_read.specs.Fields.{packetAt}
 use Rattle.tlp_read.specs.Read.{readRows, payloadOf}
-use Rattle.read_rules.specs.declared.request.ReadRequest.{ReadRequest}
-use Rattle.read_rules.specs.declared.validity.Read.{Read}
-use Rattle.read_rules.specs.declared.piece.Piece.{Piece}
-use Rattle.read_rules.specs.declared.continuation.Origin.{Origin}
-use Rattle.read_rules.specs.Pieces.{isCompletion, pieceOf}
-use Rattle.read_rules.specs.Continuations.{byteCountAt, lowerAddressAt, legal, clean}
+use Rattle.reads_rules.specs.declared.request.ReadRequest.{ReadRequest}
+use Rattle.reads_rules.specs.declared.read.Read.{Read}
+use Rattle.reads_rules.specs.declared.piece.Piece.{Piece}
+use Rattle.reads_rules.specs.declared.origin.Origin.{Origin}
+use Rattle.reads_rules.specs.Pieces.{isCompletion, pieceOf}
+use Rattle.reads_rules.specs.Continuations.{byteCountAt, lowerAddressAt, legal, clean}
 use Rattle.cuttings.specs.Rows.{lawfulRow}
 
 -- the packet in bytes, as a completion, with its payload
@@ -34,8 +34,8 @@ unfoldable pub readsAsCompletion : Origin → List ℕ → Bool
 readsAsCompletion o b = eqb (first (readRows (o .settings) b)) 0 && isCompletion (packetIn b)
 
 -- a read with p doublewords taken
-abbrev pub after : ReadRequest → ℕ → Read
-after q p = record { request = q; taken = p }
+abbrev pub takenTo : ReadRequest → ℕ → Read
+takenTo q p = record { request = q; taken = p }
 
 unfoldable pub cleanPacket : Origin → ℕ → Read → List ℕ → Bool
 cleanPacket o tag r b = readsAsCompletion o b && clean o tag r (pieceIn b)
@@ -44,8 +44,8 @@ cleanPacket o tag r b = readsAsCompletion o b && clean o tag r (pieceIn b)
 unfoldable pub lawfulFrom : Origin → ℕ → ReadRequest → ℕ → List (List ℕ) → Bool
 lawfulFrom o tag q p [] = eqb p (q .access .length)
 lawfulFrom o tag q p (b ∷ bs) =
-    cleanPacket o tag (after q p) b
-    && (legal o (after q p) (pieceIn b)
+    cleanPacket o tag (takenTo q p) b
+    && (legal o (takenTo q p) (pieceIn b)
     && (leb (4 * pieceIn b .length) (o .settings .mps)
     && lawfulFrom o tag q (p + pieceIn b .length) bs))
 
@@ -56,7 +56,7 @@ lengthsOf (b ∷ bs) = pieceIn b .length ∷ lengthsOf bs
 
 unfoldable pub cleanFrom : Origin → ℕ → ReadRequest → ℕ → List (List ℕ) → Bool
 cleanFrom o tag q p [] = true
-cleanFrom o tag q p (b ∷ bs) = cleanPacket o tag (after q p) b && cleanFrom o tag q (p + pieceIn b .length) bs
+cleanFrom o tag q p (b ∷ bs) = cleanPacket o tag (takenTo q p) b && cleanFrom o tag q (p + pieceIn b .length) bs
 
 unfoldable pub fieldsFrom : Access → ℕ → List (List ℕ) → Bool
 fieldsFrom a p [] = true
@@ -72,9 +72,9 @@ lawfulCutting o tag q bs =
     && fieldsFrom (q .access) 0 bs)
 
 -- "The answer is a cutting's payloads joined"
-unfoldable pub joined : List (List ℕ) → List ℕ
-joined [] = []
-joined (b ∷ bs) = payloadIn b ++ joined bs
+unfoldable pub payloadsJoined : List (List ℕ) → List ℕ
+payloadsJoined [] = []
+payloadsJoined (b ∷ bs) = payloadIn b ++ payloadsJoined bs
 
 -- ---- what is proved in proofs/
 

@@ -7,7 +7,7 @@ use mathlib.Core.List.{List, [], _∷_, _++_, map}
 use lib.Dec.{eqb, leb}
 use Rattle.bits.specs.Choice.{pick}
 use Rattle.byte_enables.specs.declared.Access.{Access}
-use Rattle.read_rules.specs.Continuations.{cutAllowed}
+use Rattle.reads_rules.specs.Continuations.{cutAllowed}
 
 -- of the lengths alone, from doubleword p on: "each legal in turn, none over MPS, ending at L"
 unfoldable pub rowFrom : Access → ℕ → ℕ → ℕ → List ℕ → Bool

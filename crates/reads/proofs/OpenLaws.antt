@@ -16,14 +16,13 @@ use Rattle.tlp_write.specs.Write.{writeAnswer, layAnswer, outAfter, layOut}
 use Rattle.tlp_write.specs.declared.WriteAnswer.{WriteAnswer}
 use Rattle.tlp_write.specs.declared.WriteAnswer.the-variants.{Written, Refused as Unwritten}
 use Rattle.tlp.specs.declared.packet.Packet.{Packet}
-use Rattle.tlp.specs.declared.refusal.Refusal.{Refusal}
-use Rattle.read_rules.specs.declared.request.ReadRequest.{ReadRequest}
-use Rattle.read_rules.proofs.RequestLaws.{read-type}
-use Rattle.read_rules.specs.declared.continuation.Origin.{Origin}
-use Rattle.read_slots.specs.declared.State.{State}
-use Rattle.read_slots.specs.declared.State.the-variants.{Open}
-use Rattle.read_slots.specs.Records.{openedWith, wordsWith}
-use Rattle.read_slots.specs.Slots.{isOpen}
+use Rattle.reads_rules.specs.declared.request.ReadRequest.{ReadRequest}
+use Rattle.reads_rules.proofs.RequestLaws.{read-type}
+use Rattle.reads_rules.specs.declared.origin.Origin.{Origin}
+use Rattle.reads_slots.specs.declared.State.{State}
+use Rattle.reads_slots.specs.declared.State.the-variants.{Open}
+use Rattle.reads_slots.specs.Records.{openedWith, wordsWith}
+use Rattle.reads_slots.specs.Slots.{isOpen}
 use Rattle.reads.specs.declared.table.Table.{Table}
 use Rattle.reads.specs.declared.answer.OpenAnswer.{OpenAnswer}
 use Rattle.reads.specs.declared.answer.OpenAnswer.the-variants.{Opened, Refused}
@@ -71,7 +70,7 @@ answer-number zero w h = absurd (h refl)
 answer-number (suc n) w h = refl
 
 module _ (n : ℕ) (h : n ≡ 0) (a w : WriteAnswer) (e : a ≡ w) where
-  pub answer-unwritten : (r : Refusal) → a ≡ Unwritten r → Refused (r .number) ≡ headerAnswer n w
+  pub answer-unwritten : (k : ℕ) → a ≡ Unwritten k → Refused k ≡ headerAnswer n w
   answer-unwritten r g = rw (h, ← e, g)
 
   pub answer-written : (size : ℕ) → a ≡ Written size → Opened size ≡ headerAnswer n w

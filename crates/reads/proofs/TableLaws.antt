@@ -5,20 +5,20 @@ use mathlib.Core.Bool.{Bool, true, false, not}
 use mathlib.Core.List.{List}
 use native.Mathlib.Omega.{arith}
 use borrow.Author.Tests.{le-leb, lt-leb, not-true, not-false}
-use Rattle.scan.specs.Belows.{allBelow, anyBelow, sumBelow}
+use Rattle.scans.specs.Belows.{allBelow, anyBelow, sumBelow}
 use Rattle.tlp.specs.Rows.{first}
 use Rattle.tlp.specs.Settings.{settingsListed}
 use Rattle.tlp.specs.declared.settings.Settings.{Settings}
-use Rattle.read_rules.specs.declared.continuation.Origin.{Origin}
-use Rattle.read_rules.specs.declared.request.ReadRequest.{ReadRequest}
-use Rattle.read_words.specs.Capacity.{capacity}
-use Rattle.read_slots.specs.declared.State.{State}
-use Rattle.read_slots.specs.declared.State.the-variants.{Free}
-use Rattle.read_slots.specs.Slots.{isOpen}
-use Rattle.read_slots.specs.Records.{stateBelow, openedWith, wordsWith, validAt, sharesAt, owedAt}
-use Rattle.read_words.proofs.SetLaws.{without-empty}
-use Rattle.read_words.proofs.WordLaws.{clear-zeros}
-use Rattle.read_slots.proofs.RecordLaws.{opened-order, words-order, opened-last, words-last}
+use Rattle.reads_rules.specs.declared.origin.Origin.{Origin}
+use Rattle.reads_rules.specs.declared.request.ReadRequest.{ReadRequest}
+use Rattle.reads_words.specs.Capacity.{capacity}
+use Rattle.reads_slots.specs.declared.State.{State}
+use Rattle.reads_slots.specs.declared.State.the-variants.{Free}
+use Rattle.reads_slots.specs.Slots.{isOpen}
+use Rattle.reads_slots.specs.Records.{stateBelow, openedWith, wordsWith, validAt, sharesAt, owedAt}
+use Rattle.reads_words.proofs.SetLaws.{without-empty}
+use Rattle.reads_words.proofs.WordLaws.{clear-zeros}
+use Rattle.reads_slots.proofs.RecordLaws.{opened-order, words-order, opened-last, words-last}
 use Rattle.reads.specs.declared.table.Table.{Table}
 use Rattle.reads.specs.declared.table.Withdrawal.{Withdrawal}
 use Rattle.reads.specs.declared.answer.WithdrawAnswer.the-variants.{Withdrawn, Refused}

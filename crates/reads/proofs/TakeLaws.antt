@@ -23,21 +23,21 @@ use Rattle.tlp_read.specs.Read.{readRows, answerOf, readPacket, payloadOf}
 use Rattle.tlp_read.specs.Fields.{completionAt, addressAt, routeAt, kindAt, packetAt}
 use Rattle.tlp_read.specs.Completions.{hasCompletion, completionType, completionIn, completionRows}
 use Rattle.tlp_read.proofs.CompletionLaws.{completion-rows, completion-packet}
-use Rattle.read_rules.specs.declared.validity.Read.{Read}
-use Rattle.read_rules.specs.declared.piece.Piece.{Piece}
-use Rattle.read_rules.specs.declared.continuation.Origin.{Origin}
-use Rattle.read_rules.specs.Pieces.{ofCompletions, isCompletion, pieceOf}
-use Rattle.read_slots.specs.declared.State.{State}
-use Rattle.read_slots.specs.declared.State.the-variants.{Open}
+use Rattle.reads_rules.specs.declared.read.Read.{Read}
+use Rattle.reads_rules.specs.declared.piece.Piece.{Piece}
+use Rattle.reads_rules.specs.declared.origin.Origin.{Origin}
+use Rattle.reads_rules.specs.Pieces.{ofCompletions, isCompletion, pieceOf}
+use Rattle.reads_slots.specs.declared.State.{State}
+use Rattle.reads_slots.specs.declared.State.the-variants.{Open}
 use Rattle.reads.specs.declared.table.Table.{Table}
-use Rattle.read_slots.specs.Records.{openedWith, wordsWith}
+use Rattle.reads_slots.specs.Records.{openedWith, wordsWith}
 use Rattle.reads.specs.declared.table.Taking.{Taking}
 use Rattle.reads.specs.declared.take.Outcome.{Outcome}
-use Rattle.read_answers.specs.declared.TakeAnswer.{TakeAnswer}
-use Rattle.read_answers.specs.declared.TakeAnswer.the-variants.{More, Done, Failed, Poisoned, Unread, Refused}
+use Rattle.reads_answers.specs.declared.TakeAnswer.{TakeAnswer}
+use Rattle.reads_answers.specs.declared.TakeAnswer.the-variants.{More, Done, Failed, Poisoned, Unread, Refused}
 use Rattle.reads.specs.Tables.{tableOf, stateAt, withState, validTable}
-use Rattle.read_answers.specs.Takes.{readIn, tagOf, pieceAnswer, packetAnswer}
-use Rattle.read_answers.proofs.TakeLaws.{answer-other, answer-piece, more-le}
+use Rattle.reads_answers.specs.Takes.{readIn, tagOf, pieceAnswer, packetAnswer}
+use Rattle.reads_answers.proofs.TakeLaws.{answer-other, answer-piece, more-le}
 use Rattle.reads.specs.TakeCall.{advanced, tableGiven, storeGiven, packetTaking, packetStore, answerTaking, answerStore, takeCall, takeStore}
 use Rattle.reads.specs.Steps.{takes, recordGiven, otherAnswer, kept, pieceOutcome, pieceAt, numberIn, numberedOutcome, completionOutcome, takeOutcome, outcomeOf, pieceLaid, numberedLaid, completionLaid, takeLaid, laidOf}
 

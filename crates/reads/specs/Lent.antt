@@ -1,8 +1,8 @@
 -- What a core leaves, as the call whose core it is leaves it: the table from the set and the words that were lent, and the answer.
 use Prim.Native.Nat.{ℕ}
 use mathlib.Core.List.{List}
-use Rattle.read_rules.specs.declared.continuation.Origin.{Origin}
-use Rattle.read_answers.specs.declared.TakeAnswer.{TakeAnswer}
+use Rattle.reads_rules.specs.declared.origin.Origin.{Origin}
+use Rattle.reads_answers.specs.declared.TakeAnswer.{TakeAnswer}
 use Rattle.reads.specs.declared.answer.OpenAnswer.{OpenAnswer}
 use Rattle.reads.specs.declared.answer.WithdrawAnswer.{WithdrawAnswer}
 use Rattle.reads.specs.declared.table.Opening.{Opening}

@@ -10,18 +10,18 @@ use Rattle.tlp_read.specs.Read.{readRows}
 use Rattle.tlp_read.specs.Completions.{hasCompletion, completionIn, completionRows}
 use Rattle.tlp_write.specs.declared.WriteAnswer.{WriteAnswer}
 use Rattle.tlp_write.specs.declared.WriteAnswer.the-variants.{Written, Refused as Unwritten}
-use Rattle.read_rules.specs.declared.request.ReadRequest.{ReadRequest}
-use Rattle.read_rules.specs.declared.continuation.Origin.{Origin}
-use Rattle.read_rules.specs.Requests.{requestRows}
-use Rattle.read_rules.specs.Windows.{placeRows}
-use Rattle.read_rules.specs.declared.piece.Piece.{Piece}
-use Rattle.read_rules.specs.Pieces.{pieceOf}
-use Rattle.read_slots.specs.declared.State.{State}
-use Rattle.read_slots.specs.declared.State.the-variants.{Free}
-use Rattle.read_slots.specs.Slots.{isOpen}
-use Rattle.read_answers.specs.declared.TakeAnswer.{TakeAnswer}
-use Rattle.read_answers.specs.declared.TakeAnswer.the-variants.{More, Done, Failed, Poisoned, Unread, Refused}
-use Rattle.read_answers.specs.Takes.{readIn, pieceAnswer}
+use Rattle.reads_rules.specs.declared.request.ReadRequest.{ReadRequest}
+use Rattle.reads_rules.specs.declared.origin.Origin.{Origin}
+use Rattle.reads_rules.specs.Requests.{requestRows}
+use Rattle.reads_rules.specs.Windows.{placeRows}
+use Rattle.reads_rules.specs.declared.piece.Piece.{Piece}
+use Rattle.reads_rules.specs.Pieces.{pieceOf}
+use Rattle.reads_slots.specs.declared.State.{State}
+use Rattle.reads_slots.specs.declared.State.the-variants.{Free}
+use Rattle.reads_slots.specs.Slots.{isOpen}
+use Rattle.reads_answers.specs.declared.TakeAnswer.{TakeAnswer}
+use Rattle.reads_answers.specs.declared.TakeAnswer.the-variants.{More, Done, Failed, Poisoned, Unread, Refused}
+use Rattle.reads_answers.specs.Takes.{readIn, pieceAnswer}
 use Rattle.reads.specs.declared.table.Table.{Table}
 use Rattle.reads.specs.declared.take.Outcome.{Outcome}
 use Rattle.reads.specs.declared.answer.OpenAnswer.{OpenAnswer}
@@ -66,7 +66,7 @@ earlySeen valid o x q tag room =
 -- the answer from the number of the rows before 12 and what the writer says of the header
 abbrev pub headerAnswer : ℕ → WriteAnswer → OpenAnswer
 headerAnswer zero (Written size) = Opened size
-headerAnswer zero (Unwritten r) = OpenRefused (r .number)
+headerAnswer zero (Unwritten n) = OpenRefused n
 headerAnswer (suc n) x = OpenRefused (suc n)
 
 -- ---- take; x is the record of the tag that byte 10 names

@@ -3,15 +3,15 @@ use Prim.Native.Nat.{ℕ, _*_, _/_}
 use mathlib.Core.Bool.{Bool, _&&_}
 use mathlib.Core.List.{List}
 use lib.ListN.{replicate}
-use Rattle.scan.specs.Belows.{allBelow, anyBelow, sumBelow}
+use Rattle.scans.specs.Belows.{allBelow, anyBelow, sumBelow}
 use Rattle.tlp.specs.declared.settings.Settings.{Settings}
 use Rattle.tlp.specs.Settings.{settingsListed}
-use Rattle.read_rules.specs.declared.continuation.Origin.{Origin}
-use Rattle.read_rules.specs.declared.request.ReadRequest.{ReadRequest}
-use Rattle.read_slots.specs.declared.State.{State}
-use Rattle.read_slots.specs.Slots.{validState, sharesIn, owedIn}
-use Rattle.read_words.specs.Capacity.{capacity}
-use Rattle.read_slots.specs.Records.{stateBelow, openedWith, wordsWith}
+use Rattle.reads_rules.specs.declared.origin.Origin.{Origin}
+use Rattle.reads_rules.specs.declared.request.ReadRequest.{ReadRequest}
+use Rattle.reads_slots.specs.declared.State.{State}
+use Rattle.reads_slots.specs.Slots.{validState, sharesIn, owedIn}
+use Rattle.reads_words.specs.Capacity.{capacity}
+use Rattle.reads_slots.specs.Records.{stateBelow, openedWith, wordsWith}
 use Rattle.reads.specs.declared.table.Table.{Table}
 
 -- the tags that may be opened are those below: "Tags run 0 to 31."

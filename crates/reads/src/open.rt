@@ -5,18 +5,18 @@ use crate::table::Table;
 use crate::table::is_valid;
 use crate::table::state_at;
 use crate::table::tag_limit;
-use read_rules::continuation::Origin;
-use read_rules::request::ReadRequest;
-use read_rules::request::request_number;
-use read_rules::request::request_packet;
-use read_rules::validity::Read;
-use read_rules::window::place_number;
-use read_slots::State;
-use read_slots::is_open;
-use read_slots::record::put_state;
-use read_slots::scans::window_taken;
-use read_words::tag_set::TagSet;
-use read_words::words::Words;
+use reads_rules::origin::Origin;
+use reads_rules::read::Read;
+use reads_rules::request::ReadRequest;
+use reads_rules::request::request_number;
+use reads_rules::request::request_packet;
+use reads_rules::window::place_number;
+use reads_slots::State;
+use reads_slots::is_open;
+use reads_slots::open_tags::window_taken;
+use reads_slots::record::put_state;
+use reads_words::tag_set::TagSet;
+use reads_words::words::Words;
 use tlp_write::WriteAnswer;
 use tlp_write::lay_packet;
 ghost use mathlib.Core.Path.{_≡_};
@@ -102,7 +102,7 @@ fn open_answer(n: u32, o: Origin, q: ReadRequest, tag: u32, out: &mut [u8]) -> O
     }
     let written = write_header(o, q, tag as u8, out);
     match written {
-        WriteAnswer::Refused(r) => OpenAnswer::Refused(r.number),
+        WriteAnswer::Refused(n) => OpenAnswer::Refused(n),
         WriteAnswer::Written(size) => OpenAnswer::Opened(size),
     }
 }

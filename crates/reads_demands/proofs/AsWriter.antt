@@ -12,12 +12,12 @@ use Rattle.tlp.specs.Contents.{plainBad, enablesBad, pageBad}
 use Rattle.tlp.specs.declared.settings.Settings.{Settings}
 use Rattle.tlp.specs.declared.packet.Packet.{Packet}
 use Rattle.tlp.specs.declared.packet_type.Family.the-variants.{Memory}
-use Rattle.tlp_given.specs.Given.{commonBad, requestBad, ownBad, reservedGiven, routeBad, givenRows}
+use Rattle.tlp_writable.specs.Given.{commonBad, requestBad, ownBad, reservedGiven, routeBad, givenRows}
 use Rattle.tlp_write.specs.Layout.{sizeOf}
 use Rattle.tlp_write.specs.Write.{laterRows, writeRows}
-use Rattle.read_rules.specs.declared.request.ReadRequest.{ReadRequest}
-use Rattle.read_rules.specs.Requests.{requestPacket, givenBad}
-use Rattle.read_rules.proofs.RequestLaws.{read-type}
+use Rattle.reads_rules.specs.declared.request.ReadRequest.{ReadRequest}
+use Rattle.reads_rules.specs.Requests.{requestPacket, givenBad}
+use Rattle.reads_rules.proofs.RequestLaws.{read-type}
 use Rattle.reads_demands.specs.AsWriter.{AsWriter}
 
 -- the first place for 6 is one row, whatever comes after it

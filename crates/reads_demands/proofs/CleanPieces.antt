@@ -6,14 +6,14 @@ use mathlib.Core.List.{List}
 use borrow.Author.Tests.{eqb-true, eq-eqb, leb-true, le-leb, not-true}
 use Rattle.tlp.specs.Rows.{first}
 use Rattle.tlp_read.specs.Read.{readRows}
-use Rattle.read_rules.specs.declared.request.ReadRequest.{ReadRequest}
-use Rattle.read_rules.specs.declared.validity.Read.{Read}
-use Rattle.read_rules.specs.declared.piece.Piece.{Piece}
-use Rattle.read_rules.specs.declared.continuation.Origin.{Origin}
-use Rattle.read_rules.specs.Windows.{storeLimit, windowEnd, holdsWindow}
-use Rattle.read_rules.specs.Validity.{owedOf}
-use Rattle.read_rules.specs.Pieces.{isCompletion}
-use Rattle.read_rules.specs.Continuations.{cutAllowed, succeeds, differs, legal, clean}
+use Rattle.reads_rules.specs.declared.request.ReadRequest.{ReadRequest}
+use Rattle.reads_rules.specs.declared.read.Read.{Read}
+use Rattle.reads_rules.specs.declared.piece.Piece.{Piece}
+use Rattle.reads_rules.specs.declared.origin.Origin.{Origin}
+use Rattle.reads_rules.specs.Windows.{storeLimit, windowEnd, holdsWindow}
+use Rattle.reads_rules.specs.Validity.{owedOf}
+use Rattle.reads_rules.specs.Pieces.{isCompletion}
+use Rattle.reads_rules.specs.Continuations.{cutAllowed, succeeds, differs, legal, clean}
 use Rattle.cuttings.specs.Lawful.{packetIn, pieceIn, readsAsCompletion, cleanPacket}
 use Rattle.reads_demands.proofs.PieceSizes.{Sized, sized}
 

@@ -13,20 +13,20 @@ use Rattle.bits.specs.Choice.{pick}
 use Rattle.tlp.specs.Rows.{first}
 use Rattle.tlp_write.specs.Layout.{sizeOf}
 use Rattle.byte_enables.specs.Enables.{enabled}
-use Rattle.read_rules.specs.declared.request.ReadRequest.{ReadRequest}
-use Rattle.read_rules.specs.declared.validity.Read.{Read}
-use Rattle.read_rules.specs.declared.continuation.Origin.{Origin}
-use Rattle.read_rules.specs.Windows.{storeLimit, windowEnd, sharesByte}
-use Rattle.read_rules.specs.Validity.{owedOf}
-use Rattle.read_rules.specs.Continuations.{legal}
-use Rattle.read_store.specs.Stores.{stored}
-use Rattle.read_slots.specs.declared.State.{State}
-use Rattle.read_slots.specs.declared.State.the-variants.{Free, Open}
+use Rattle.reads_rules.specs.declared.request.ReadRequest.{ReadRequest}
+use Rattle.reads_rules.specs.declared.read.Read.{Read}
+use Rattle.reads_rules.specs.declared.origin.Origin.{Origin}
+use Rattle.reads_rules.specs.Windows.{storeLimit, windowEnd, sharesByte}
+use Rattle.reads_rules.specs.Validity.{owedOf}
+use Rattle.reads_rules.specs.Continuations.{legal}
+use Rattle.reads_store.specs.Stores.{stored}
+use Rattle.reads_slots.specs.declared.State.{State}
+use Rattle.reads_slots.specs.declared.State.the-variants.{Free, Open}
 use Rattle.reads.specs.declared.table.Table.{Table}
 use Rattle.reads.specs.declared.answer.OpenAnswer.{OpenAnswer}
 use Rattle.reads.specs.declared.answer.OpenAnswer.the-variants.{Opened, Refused as OpenRefused}
-use Rattle.read_answers.specs.declared.TakeAnswer.{TakeAnswer}
-use Rattle.read_answers.specs.declared.TakeAnswer.the-variants.{More, Done, Failed, Poisoned, Unread, Refused}
+use Rattle.reads_answers.specs.declared.TakeAnswer.{TakeAnswer}
+use Rattle.reads_answers.specs.declared.TakeAnswer.the-variants.{More, Done, Failed, Poisoned, Unread, Refused}
 use Rattle.reads.specs.declared.answer.WithdrawAnswer.{WithdrawAnswer}
 use Rattle.reads.specs.declared.answer.WithdrawAnswer.the-variants.{Withdrawn, Refused as WithdrawRefused}
 use Rattle.reads.specs.Tables.{stateAt}
@@ -34,7 +34,7 @@ use Rattle.reads.specs.Answers.{openNumber, takeNumber, withdrawNumber}
 use Rattle.reads.specs.OpenCall.{headerPacket, openRows, openAnswer, openCall}
 use Rattle.reads.specs.TakeCall.{takeCall, takeStore}
 use Rattle.reads.specs.OtherCalls.{withdrawCall}
-use Rattle.cuttings.specs.Lawful.{pieceIn, payloadIn, after, cleanPacket, lawfulFrom, lawfulCutting, joined}
+use Rattle.cuttings.specs.Lawful.{pieceIn, payloadIn, takenTo, cleanPacket, lawfulFrom, lawfulCutting, payloadsJoined}
 use Rattle.cuttings.proofs.PieceByPiece.{piece-by-piece}
 use Rattle.reads_demands.specs.History.{Call, opening, taking, withdrawing, asking, takeEvent, eventTag, eventChange, change, doublewords, keeps, opens, openChange, takeChange, withdrawChange}
 use Rattle.reads_demands.specs.Demand2.{Continues}
@@ -56,7 +56,7 @@ module _ (o : Origin) (tag : ℕ) (q : ReadRequest) where
   piece-left : (p : ℕ) (b : List ℕ) (bs : List (List ℕ)) → lawfulFrom o tag q p (b ∷ bs) ≡ true → p < q .access .length
   unfolding owedOf
   piece-left p b bs e =
-      let l = legal-length o (after q p) (pieceIn b) (next-piece o tag q p b bs e .0 .is-legal) in
+      let l = legal-length o (takenTo q p) (pieceIn b) (next-piece o tag q p b bs e .0 .is-legal) in
       omega arith
 
   pieces-left : (p : ℕ) (bs : List (List ℕ)) (b : List ℕ) → lawfulFrom o tag q p (bs ++ (b ∷ [])) ≡ true → p < q .access .length
@@ -144,10 +144,10 @@ module _ {o : Origin} {t : Table} (g : Sound o t) (tag : ℕ) (r : Read) (is : s
 -- ---- where the delivery stands: the pieces so far are in the store last left
 record Mid (o : Origin) (q : ReadRequest) (tag : ℕ) (opened : List ℕ) (sofar : List (List ℕ)) (t : Table) (last : List ℕ) : Type 0 where
   sound : Sound o t
-  is : stateAt t tag ≡ Open (after q (doublewords sofar))
-  laid : length (joined sofar) ≡ 4 * doublewords sofar
+  is : stateAt t tag ≡ Open (takenTo q (doublewords sofar))
+  laid : length (payloadsJoined sofar) ≡ 4 * doublewords sofar
   size : length last ≡ length opened
-  window : (k : ℕ) → k < 4 * q .access .length → getD last (q .start + k) 0 ≡ windowByte q (doublewords sofar) (joined sofar) opened k
+  window : (k : ℕ) → k < 4 * q .access .length → getD last (q .start + k) 0 ≡ windowByte q (doublewords sofar) (payloadsJoined sofar) opened k
 
 -- as Delivered, with pieces before: all are the pieces from the opening on
 record Arrives (q : ReadRequest) (tag : ℕ) (t : Table) (opened : List ℕ) (all : List (List ℕ)) (mid : List Item) (b store : List ℕ) : Type 0 where
@@ -155,12 +155,12 @@ record Arrives (q : ReadRequest) (tag : ℕ) (t : Table) (opened : List ℕ) (al
   done : takeCall (run t (calls mid)) b (length store) .answer ≡ Done
   free : stateAt (next (run t (calls mid)) (taking b store)) tag ≡ Free
   bytes : (k : ℕ) → k < 4 * q .access .length
-      → getD (takeStore (run t (calls mid)) b store) (q .start + k) 0 ≡ pick (enabled (q .access) k) (getD (joined all) k 0) (getD opened (q .start + k) 0)
+      → getD (takeStore (run t (calls mid)) b store) (q .start + k) 0 ≡ pick (enabled (q .access) k) (getD (payloadsJoined all) k 0) (getD opened (q .start + k) 0)
 
 module _ (o : Origin) (q : ReadRequest) (tag : ℕ) (opened : List ℕ) (sofar : List (List ℕ)) (t : Table) (last : List ℕ) (m : Mid o q tag opened sofar t last) where
   mid-other : (c : Call) → Harmless tag (answered t c) → SameWindow q last (lent c) → Mid o q tag opened sofar (next t c) (orLast last (left t c))
   mid-other c h w =
-      let r = after q (doublewords sofar) in
+      let r = takenTo q (doublewords sofar) in
       let s = other-store (m .sound) tag r (m .is) last c h w in
       record {
         sound = sound-next (m .sound) c;
@@ -171,15 +171,15 @@ module _ (o : Origin) (q : ReadRequest) (tag : ℕ) (opened : List ℕ) (sofar :
       }
 
   -- ---- a piece is taken
-  module _ (limit : length opened ≤ storeLimit) (room : windowEnd q ≤ length opened) (b store : List ℕ) (clean! : cleanPacket o tag (after q (doublewords sofar)) b ≡ true)
-      (legal! : legal o (after q (doublewords sofar)) (pieceIn b) ≡ true) (w : SameWindow q last (some store)) where
+  module _ (limit : length opened ≤ storeLimit) (room : windowEnd q ≤ length opened) (b store : List ℕ) (clean! : cleanPacket o tag (takenTo q (doublewords sofar)) b ≡ true)
+      (legal! : legal o (takenTo q (doublewords sofar)) (pieceIn b) ≡ true) (w : SameWindow q last (some store)) where
     own-tag : pieceIn b .header .tag ≡ tag
-    own-tag = clean-bytes o tag (after q (doublewords sofar)) b clean! .piece .matches
+    own-tag = clean-bytes o tag (takenTo q (doublewords sofar)) b clean! .piece .matches
 
     store-size : length store ≡ length opened
     store-size = w .0 ∙ m .size
 
-    piece-continues : Continues t b (length store) (after q (doublewords sofar))
+    piece-continues : Continues t b (length store) (takenTo q (doublewords sofar))
     piece-continues = record {
       is-open = rw own-tag (m .is);
       is-clean = rw (m .sound .origin, own-tag) clean!;
@@ -189,7 +189,7 @@ module _ (o : Origin) (q : ReadRequest) (tag : ℕ) (opened : List ℕ) (sofar :
 
     piece-answer : takeCall t b (length store) .answer ≡ pick (eqb (pieceIn b .length) (q .access .length - doublewords sofar)) Done More
     unfolding owedOf
-    piece-answer = continues t b (length store) (after q (doublewords sofar)) (sound-valid (m .sound)) piece-continues
+    piece-answer = continues t b (length store) (takenTo q (doublewords sofar)) (sound-valid (m .sound)) piece-continues
 
     piece-written : (d : Bool) → takeCall t b (length store) .answer ≡ pick d Done More → takeStore t b store ≡ stored q (doublewords sofar) (payloadIn b) store
     piece-written true e = take-store t b store Done e ∙ rw (piece-continues .is-open)
@@ -203,18 +203,18 @@ module _ (o : Origin) (q : ReadRequest) (tag : ℕ) (opened : List ℕ) (sofar :
     left-size = frame t b store .size ∙ store-size
 
     left-window : (k : ℕ) → k < 4 * q .access .length
-        → getD (takeStore t b store) (q .start + k) 0 ≡ windowByte q (doublewords (sofar ++ (b ∷ []))) (joined (sofar ++ (b ∷ []))) opened k
+        → getD (takeStore t b store) (q .start + k) 0 ≡ windowByte q (doublewords (sofar ++ (b ∷ []))) (payloadsJoined (sofar ++ (b ∷ []))) opened k
     unfolding owedOf
     left-window k h =
-        let n = legal-length o (after q (doublewords sofar)) (pieceIn b) legal! in
-        let z = clean-bytes o tag (after q (doublewords sofar)) b clean! .size .payload in
+        let n = legal-length o (takenTo q (doublewords sofar)) (pieceIn b) legal! in
+        let z = clean-bytes o tag (takenTo q (doublewords sofar)) b clean! .size .payload in
         rw (piece-written (eqb (pieceIn b .length) (q .access .length - doublewords sofar)) piece-answer, doublewords-end sofar b, joined-end sofar b)
-        (piece-bytes q (doublewords sofar) (pieceIn b .length) (joined sofar) (payloadIn b) store opened (m .laid) z (omega arith) (omega (arith, store-size)) k h (w .1 k h ∙ m .window k h))
+        (piece-bytes q (doublewords sofar) (pieceIn b .length) (payloadsJoined sofar) (payloadIn b) store opened (m .laid) z (omega arith) (omega (arith, store-size)) k h (w .1 k h ∙ m .window k h))
 
-    laid-size : length (joined (sofar ++ (b ∷ []))) ≡ 4 * doublewords (sofar ++ (b ∷ []))
+    laid-size : length (payloadsJoined (sofar ++ (b ∷ []))) ≡ 4 * doublewords (sofar ++ (b ∷ []))
     laid-size =
-        let z = clean-bytes o tag (after q (doublewords sofar)) b clean! .size .payload in
-        rw (doublewords-end sofar b, joined-end sofar b, length-append (joined sofar) (payloadIn b)) (omega (arith, m .laid))
+        let z = clean-bytes o tag (takenTo q (doublewords sofar)) b clean! .size .payload in
+        rw (doublewords-end sofar b, joined-end sofar b, length-append (payloadsJoined sofar) (payloadIn b)) (omega (arith, m .laid))
 
     mid-piece : doublewords sofar + pieceIn b .length < q .access .length
         → (takeCall t b (length store) .answer ≡ More) × Mid o q tag opened (sofar ++ (b ∷ [])) (next t (taking b store)) (takeStore t b store)
@@ -278,7 +278,7 @@ open-change t q tag store out e =
 
 mid-opened : {o : Origin} {t : Table} → Sound o t → (q : ReadRequest) (tag : ℕ) (store out : List ℕ) → openNumber (openCall t q tag (length store) (length out) .answer) ≡ 0
     → Mid o q tag store [] (next t (opening q tag store out)) store
-unfolding doublewords joined
+unfolding doublewords payloadsJoined
 mid-opened {t = t} g q tag store out e = record {
   sound = sound-next g (opening q tag store out);
   is = state-next g (opening q tag store out) tag ∙ rw (open-change t q tag store out e);

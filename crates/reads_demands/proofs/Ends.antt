@@ -10,22 +10,22 @@ use native.Mathlib.Omega.{arith}
 use lib.ListN.{length}
 use borrow.Author.Tests.{eq-eqb, eqb-true, le-leb}
 use Rattle.tlp.specs.Settings.{settingsListed}
-use Rattle.read_rules.specs.declared.request.ReadRequest.{ReadRequest}
-use Rattle.read_rules.specs.declared.validity.Read.{Read}
-use Rattle.read_rules.specs.declared.continuation.Origin.{Origin}
-use Rattle.read_rules.specs.Validity.{owedOf}
-use Rattle.read_slots.specs.declared.State.{State}
-use Rattle.read_slots.specs.declared.State.the-variants.{Free, Open}
-use Rattle.read_slots.specs.Slots.{isOpen}
+use Rattle.reads_rules.specs.declared.request.ReadRequest.{ReadRequest}
+use Rattle.reads_rules.specs.declared.read.Read.{Read}
+use Rattle.reads_rules.specs.declared.origin.Origin.{Origin}
+use Rattle.reads_rules.specs.Validity.{owedOf}
+use Rattle.reads_slots.specs.declared.State.{State}
+use Rattle.reads_slots.specs.declared.State.the-variants.{Free, Open}
+use Rattle.reads_slots.specs.Slots.{isOpen}
 use Rattle.reads.specs.declared.table.Table.{Table}
-use Rattle.read_answers.specs.declared.TakeAnswer.the-variants.{Done}
+use Rattle.reads_answers.specs.declared.TakeAnswer.the-variants.{Done}
 use Rattle.reads.specs.Tables.{newTable, stateAt}
-use Rattle.read_answers.specs.Takes.{readIn}
+use Rattle.reads_answers.specs.Takes.{readIn}
 use Rattle.reads.specs.TakeCall.{takeCall}
-use Rattle.cuttings.specs.Lawful.{pieceIn, after, cleanPacket, lawfulFrom}
+use Rattle.cuttings.specs.Lawful.{pieceIn, takenTo, cleanPacket, lawfulFrom}
 use Rattle.cuttings.proofs.PieceByPiece.{piece-by-piece}
 use Rattle.reads_demands.specs.History.{Call, History, Change, keeps, opens, adds, closes, change, requestAfter, openRequest, piecesAfter, takenPieces, doublewords}
-use Rattle.reads_demands.specs.History.{recordOf, answeredBy, answersAfter, answersOf}
+use Rattle.reads_demands.specs.History.{recordsOf, answeredBy, answersAfter, answersOf}
 use Rattle.reads_demands.specs.Demand2.{Continues}
 use Rattle.reads_demands.specs.Demand3.{answered, next, run, Ends}
 use Rattle.reads_demands.proofs.LawfulPieces.{LawfulPiece, next-piece}
@@ -83,12 +83,12 @@ continues-lawful o t b room tag r e n c =
 abbrev Begins : Origin → History → Type 0
 Begins o h = (tag : ℕ) (q : ReadRequest) → openRequest tag h ≡ some q → Begun o tag q 0 (takenPieces tag h)
 
-record-open : (h : History) (tag : ℕ) (q : ReadRequest) → openRequest tag h ≡ some q → recordOf h tag ≡ Open (after q (doublewords (takenPieces tag h)))
-unfolding recordOf
+record-open : (h : History) (tag : ℕ) (q : ReadRequest) → openRequest tag h ≡ some q → recordsOf h tag ≡ Open (takenTo q (doublewords (takenPieces tag h)))
+unfolding recordsOf
 record-open h tag q e = rw e
 
-record-free : (h : History) (tag : ℕ) → openRequest tag h ≡ none → recordOf h tag ≡ Free
-unfolding recordOf
+record-free : (h : History) (tag : ℕ) → openRequest tag h ≡ none → recordsOf h tag ≡ Free
+unfolding recordsOf
 record-free h tag e = rw e
 
 same-read : (x : State) (r s : Read) → x ≡ Open r → x ≡ Open s → r ≡ s
@@ -104,20 +104,20 @@ module _ {o : Origin} {t : Table} {h : History} (f : Follows o t h) where
   begins-change k tag q (opens r) a e = tt
   begins-change k tag q (adds b) a e =
       let p = doublewords (takenPieces tag h) in
-      let r : a .read ≡ after q p = same-read (stateAt t tag) _ _ (adds-to t tag b a) (f .records tag ∙ record-open h tag q e) in
-      let m : Continues t b (a .room) (after q p) = rw r at (a .met) in
+      let r : a .read ≡ takenTo q p = same-read (stateAt t tag) _ _ (adds-to t tag b a) (f .records tag ∙ record-open h tag q e) in
+      let m : Continues t b (a .room) (takenTo q p) = rw r at (a .met) in
       let z : 0 + p ≡ p = omega arith in
-      begun-end o tag q 0 (takenPieces tag h) b (k tag q e) (rw z (continues-lawful o t b (a .room) tag (after q p) (f .sound .origin) (a .named) m))
+      begun-end o tag q 0 (takenPieces tag h) b (k tag q e) (rw z (continues-lawful o t b (a .room) tag (takenTo q p) (f .sound .origin) (a .named) m))
   begins-change k tag q closes a e = absurd (none-some q e)
 
-  begins-next : Begins o h → (c : Call) → Begins o (answeredBy o (recordOf h) c ∷ h)
+  begins-next : Begins o h → (c : Call) → Begins o (answeredBy o (recordsOf h) c ∷ h)
   unfolding openRequest takenPieces
   begins-next k c tag q = rw (← (answered-alone f c)) (begins-change k tag q (change tag (answered t c)) (fair-at t c tag))
 
 begins-run : (o : Origin) (t : Table) (h : History) (cs : List Call) → Follows o t h → Begins o h → Begins o (answersAfter o h cs)
 unfolding answersAfter
 begins-run o t h [] f k = k
-begins-run o t h (c ∷ cs) f k = begins-run o (next t c) (answeredBy o (recordOf h) c ∷ h) cs (follows-next f c) (begins-next f k c)
+begins-run o t h (c ∷ cs) f k = begins-run o (next t c) (answeredBy o (recordsOf h) c ∷ h) cs (follows-next f c) (begins-next f k c)
 
 begins : (o : Origin) → settingsListed (o .settings) ≡ true → (cs : List Call) → Begins o (answersOf o cs)
 begins o l cs = begins-run o (newTable o) [] cs (follows-new o l) (unfold openRequest in (λ tag q e. absurd (none-some q e)))
@@ -138,12 +138,12 @@ module _ {o : Origin} {t : Table} {h : History} (f : Follows o t h) (k : Begins 
           let tag = pieceIn b .header .tag in
           let bs = takenPieces tag h in
           let m = meets t b (length store) (rw e) in
-          let r : m .read ≡ after q (doublewords bs) = same-read (stateAt t tag) _ _ (m .continues .is-open) (f .records tag ∙ record-open h tag q n) in
-          let c : Continues t b (length store) (after q (doublewords bs)) = rw r at (m .continues) in
-          let last : pieceIn b .length ≡ owedOf (after q (doublewords bs)) = rw r at (done-last t b (length store) m e) in
-          let some = legal-length (t .origin) (after q (doublewords bs)) (pieceIn b) (c .is-legal) in
+          let r : m .read ≡ takenTo q (doublewords bs) = same-read (stateAt t tag) _ _ (m .continues .is-open) (f .records tag ∙ record-open h tag q n) in
+          let c : Continues t b (length store) (takenTo q (doublewords bs)) = rw r at (m .continues) in
+          let last : pieceIn b .length ≡ owedOf (takenTo q (doublewords bs)) = rw r at (done-last t b (length store) m e) in
+          let some = legal-length (t .origin) (takenTo q (doublewords bs)) (pieceIn b) (c .is-legal) in
           let z : 0 + doublewords bs ≡ doublewords bs = omega arith in
-          let g = begun-end o tag q 0 bs b (k tag q n) (rw z (continues-lawful o t b (length store) tag (after q (doublewords bs)) (f .sound .origin) refl c)) in
+          let g = begun-end o tag q 0 bs b (k tag q n) (rw z (continues-lawful o t b (length store) tag (takenTo q (doublewords bs)) (f .sound .origin) refl c)) in
           record {
             request = q;
             is-open = n;
@@ -161,14 +161,14 @@ module _ {o : Origin} {t : Table} {h : History} (f : Follows o t h) (k : Begins 
       let g = lawful-begun o tag q 0 (bs ++ (b ∷ [])) (sym (piece-by-piece o tag q (bs ++ (b ∷ []))) ∙ x .cutting) in
       let z : 0 + p ≡ p = omega arith in
       let l : LawfulPiece o tag q p b = rw z at (begun-last o tag q 0 bs b (g .0)) in
-      let c : Continues t b (length store) (after q p) = record {
+      let c : Continues t b (length store) (takenTo q p) = record {
         is-open = f .records tag ∙ record-open h tag q (x .is-open);
         is-clean = rw (f .sound .origin) (l .is-clean);
         is-legal = rw (f .sound .origin) (l .is-legal);
         holds = x .holds;
       } in
       let e : p + pieceIn b .length ≡ q .access .length = omega (arith, g .1, doublewords-end bs b) in
-      continues t b (length store) (after q p) (sound-valid (f .sound)) c ∙ rw (eq-eqb (pieceIn b .length) (q .access .length - p) (omega arith))
+      continues t b (length store) (takenTo q p) (sound-valid (f .sound)) c ∙ rw (eq-eqb (pieceIn b .length) (q .access .length - p) (omega arith))
 
 pub ends : (o : Origin) → settingsListed (o .settings) ≡ true → (before : List Call) (b store : List ℕ)
     → (takeCall (run (newTable o) before) b (length store) .answer ≡ Done) ↔ Ends o (answersOf o before) b store

@@ -7,23 +7,23 @@ use mathlib.Core.List.{List, []}
 use native.Mathlib.Omega.{arith}
 use lib.ListN.{length, getD}
 use Rattle.tlp_write.specs.Layout.{bytesOf}
-use Rattle.read_rules.specs.declared.validity.Read.{Read}
-use Rattle.read_rules.specs.declared.piece.Piece.{Piece}
-use Rattle.read_rules.specs.declared.request.ReadRequest.{ReadRequest}
-use Rattle.read_rules.specs.Windows.{windowEnd}
-use Rattle.read_rules.specs.Validity.{owedOf}
-use Rattle.read_store.specs.Stores.{partAt, stored}
-use Rattle.read_store.proofs.StoreLaws.{length-stored, stored-before, stored-after}
+use Rattle.reads_rules.specs.declared.read.Read.{Read}
+use Rattle.reads_rules.specs.declared.piece.Piece.{Piece}
+use Rattle.reads_rules.specs.declared.request.ReadRequest.{ReadRequest}
+use Rattle.reads_rules.specs.Windows.{windowEnd}
+use Rattle.reads_rules.specs.Validity.{owedOf}
+use Rattle.reads_store.specs.Stores.{partAt, stored}
+use Rattle.reads_store.proofs.StoreLaws.{length-stored, stored-before, stored-after}
 use Rattle.reads.specs.declared.table.Table.{Table}
 use Rattle.reads.specs.declared.answer.OpenAnswer.{OpenAnswer}
 use Rattle.reads.specs.declared.answer.OpenAnswer.the-variants.{Opened, Refused as OpenRefused}
-use Rattle.read_answers.specs.declared.TakeAnswer.{TakeAnswer}
-use Rattle.read_answers.specs.declared.TakeAnswer.the-variants.{More, Done, Failed, Poisoned, Unread, Refused}
+use Rattle.reads_answers.specs.declared.TakeAnswer.{TakeAnswer}
+use Rattle.reads_answers.specs.declared.TakeAnswer.the-variants.{More, Done, Failed, Poisoned, Unread, Refused}
 use Rattle.reads.specs.declared.answer.WithdrawAnswer.{WithdrawAnswer}
 use Rattle.reads.specs.declared.answer.WithdrawAnswer.the-variants.{Withdrawn, Refused as WithdrawRefused}
 use Rattle.reads.specs.Answers.{openNumber, takeNumber, withdrawNumber}
 use Rattle.reads.specs.Tables.{stateAt}
-use Rattle.read_answers.specs.Takes.{readIn}
+use Rattle.reads_answers.specs.Takes.{readIn}
 use Rattle.reads.specs.OpenCall.{headerPacket, openCall, openOut, tableOpened, outGiven}
 use Rattle.reads.specs.TakeCall.{takeCall, takeStore, tableGiven, storeGiven}
 use Rattle.reads.specs.OtherCalls.{withdrawCall, tableWithdrawn}

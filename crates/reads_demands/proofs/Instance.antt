@@ -9,8 +9,8 @@ use lib.ListN.{length, replicate}
 use lib.Seq.{getD-append-add}
 use Rattle.bits.specs.Count.{clearBelow, clearAbove}
 use Rattle.byte_enables.specs.Enables.{enablesAllowed, off, trail, total, enablesAt, enabled}
-use Rattle.scan.specs.Belows.{allBelow, anyBelow, sumBelow}
-use Rattle.scan.specs.Merges.{merged}
+use Rattle.scans.specs.Belows.{allBelow, anyBelow, sumBelow}
+use Rattle.scans.specs.Merges.{merged}
 use Rattle.tlp.specs.Rows.{first}
 use Rattle.tlp.specs.Settings.{settingsListed}
 use Rattle.tlp.specs.PacketTypes.{typeAt}
@@ -18,30 +18,30 @@ use Rattle.tlp.specs.Packets.{typeOf, accessOf}
 use Rattle.tlp.specs.Sizes.{orMost, lengthAt, digestAt, dataBytes, digestBytes, bytesCalled}
 use Rattle.tlp.specs.Contents.{plainBad, enablesBad, pageBad}
 use Rattle.tlp_read.specs.Fields.{attributesAt, completionAt, routeAt, kindAt, packetAt}
-use Rattle.tlp_read.specs.Read.{hintsBad, routingBad, formBad, readPacket, payloadOf}
-use Rattle.tlp_given.specs.Given.{commonBad, requestBad, ownBad, reservedGiven, addressRouteBad, routeBad}
+use Rattle.tlp_read.specs.Read.{hintOrAddressTypeSet, routingBad, formBad, readPacket, payloadOf}
+use Rattle.tlp_writable.specs.Given.{commonBad, requestBad, ownBad, reservedGiven, addressRouteBad, routeBad}
 use Rattle.tlp_write.specs.Layout.{sizeOf}
-use Rattle.read_rules.specs.Requests.{requestPacket, givenBad}
-use Rattle.read_rules.specs.Windows.{placeBad, sharesByte, holdsWindow}
-use Rattle.read_rules.specs.Validity.{validRead, owedOf}
-use Rattle.read_rules.specs.Pieces.{isCompletion, pieceOf}
-use Rattle.read_rules.specs.Continuations.{byteCountAt, lowerAddressAt, cutAllowed, legal, statusBad, differs, clean}
-use Rattle.read_store.specs.Stores.{stored}
-use Rattle.read_words.specs.TagSets.{contains, changed, withBit, withoutBit}
-use Rattle.read_words.specs.Words.{readAt, readOf, putRead, putWords, clearRead}
-use Rattle.read_slots.specs.Records.{recordAt, stateBelow}
+use Rattle.reads_rules.specs.Requests.{requestPacket, givenBad}
+use Rattle.reads_rules.specs.Windows.{placeBad, sharesByte, holdsWindow}
+use Rattle.reads_rules.specs.Validity.{validRead, owedOf}
+use Rattle.reads_rules.specs.Pieces.{isCompletion, pieceOf}
+use Rattle.reads_rules.specs.Continuations.{byteCountAt, lowerAddressAt, cutAllowed, legal, statusBad, differs, clean}
+use Rattle.reads_store.specs.Stores.{stored}
+use Rattle.reads_words.specs.TagSets.{contains, changed, withBit, withoutBit}
+use Rattle.reads_words.specs.Words.{readAt, readOf, putRead, putWords, clearRead}
+use Rattle.reads_slots.specs.Records.{recordAt, stateBelow}
 use Rattle.reads.specs.declared.table.Table.{Table}
 use Rattle.reads.specs.Tables.{tagLimit, newTable, stateAt, withState, validTable, sharesOpen, owedSum}
 use Rattle.reads.specs.Answers.{openNumber, takeNumber}
 use Rattle.reads.specs.OpenCall.{openCall}
 use Rattle.reads.specs.TakeCall.{packetTaking, packetStore, takeCall, takeStore}
-use Rattle.read_answers.specs.Takes.{outcome, packetAnswer}
+use Rattle.reads_answers.specs.Takes.{outcome, packetAnswer}
 use Rattle.reads.specs.OtherCalls.{withdrawCall, owedCall}
 use Rattle.cuttings.specs.Rows.{rowFrom, lawfulRow}
 use Rattle.cuttings.specs.Lawful.{readsAsCompletion, cleanPacket, lengthsOf, cleanFrom, fieldsFrom, lawfulCutting}
 use Rattle.reads_demands.specs.History.{opening, taking}
 use Rattle.reads_demands.specs.Demand3.{next, run, answers, calls, pieces, Undisturbed, SameWindow, SameStore, Delivered}
-use Rattle.reads_demands.specs.Instance.{origin, read, shortRead, piece₁, piece₂, piece₃, storeOf, rest₀, rest₁, rest₂, out, list, given, before, between, after, opened, Premises}
+use Rattle.reads_demands.specs.Instance.{origin, read, shortRead, piece₁, piece₂, piece₃, storeOf, rest₀, rest₁, rest₂, out, list, given, before, between, afterwards, opened, Premises}
 use Rattle.reads_demands.proofs.Whole.{demand3}
 
 -- after the first piece, after the refused take, and after the other opening
@@ -69,7 +69,7 @@ computed : Computed
 unfolding run answers newTable stateAt withState tagLimit validTable openCall takeCall takeStore packetTaking packetStore packetAnswer outcome withdrawCall owedCall allBelow
     anyBelow sumBelow merged stored sharesOpen owedSum recordAt stateBelow contains changed withBit withoutBit readAt readOf putRead putWords clearRead validRead owedOf givenBad requestPacket placeBad sharesByte holdsWindow isCompletion pieceOf statusBad
     differs clean legal byteCountAt lowerAddressAt cutAllowed lawfulCutting cleanFrom cleanPacket readsAsCompletion lawfulRow rowFrom lengthsOf fieldsFrom first
-    settingsListed commonBad ownBad requestBad reservedGiven addressRouteBad routeBad readPacket payloadOf hintsBad routingBad formBad packetAt kindAt routeAt
+    settingsListed commonBad ownBad requestBad reservedGiven addressRouteBad routeBad readPacket payloadOf hintOrAddressTypeSet routingBad formBad packetAt kindAt routeAt
     completionAt attributesAt plainBad enablesBad pageBad sizeOf bytesCalled digestBytes dataBytes digestAt lengthAt orMost typeAt typeOf accessOf enablesAllowed enabled
     enablesAt total off trail clearBelow clearAbove
 computed =
@@ -98,5 +98,5 @@ premises =
 -- what the theorem then says of this list
 pub delivered : Delivered read 5 opened (storeOf 10 rest₀) between piece₃ (storeOf 15 rest₂)
 delivered =
-    demand3 origin list (premises .listed) .delivery before after read 5 (storeOf 10 rest₀) out between piece₃ (storeOf 15 rest₂)
+    demand3 origin list (premises .listed) .delivery before afterwards read 5 (storeOf 10 rest₀) out between piece₃ (storeOf 15 rest₂)
     (premises .split) (premises .accepted) (premises .lawful) (premises .undisturbed) (premises .same)

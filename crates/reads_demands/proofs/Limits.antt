@@ -8,12 +8,12 @@ use lib.Dec.{ltb, eqb}
 use lib.ListN.{length, length-replicate}
 use borrow.Author.Tests.{ltb-true, ltb-false, eqb-true, eqb-false}
 use Rattle.bits.specs.Choice.{pick}
-use Rattle.read_rules.specs.declared.continuation.Origin.{Origin}
-use Rattle.read_slots.specs.declared.State.{State}
-use Rattle.read_slots.specs.declared.State.the-variants.{Free}
-use Rattle.read_words.specs.Capacity.{capacity}
-use Rattle.read_slots.specs.Records.{FitsIn}
-use Rattle.read_slots.proofs.RecordLaws.{length-opened, length-words, record-empty, record-same, below-in, below-over, below-free, below-fits, below-other}
+use Rattle.reads_rules.specs.declared.origin.Origin.{Origin}
+use Rattle.reads_slots.specs.declared.State.{State}
+use Rattle.reads_slots.specs.declared.State.the-variants.{Free}
+use Rattle.reads_words.specs.Capacity.{capacity}
+use Rattle.reads_slots.specs.Records.{FitsIn}
+use Rattle.reads_slots.proofs.RecordLaws.{length-opened, length-words, record-empty, record-same, below-in, below-over, below-free, below-fits, below-other}
 use Rattle.reads.specs.declared.table.Table.{Table}
 use Rattle.reads.proofs.TableLaws.{limit-fits}
 use Rattle.reads.specs.Tables.{tagLimit, newTable, stateAt, withState}

@@ -13,22 +13,22 @@ use Rattle.tlp.specs.Rows.{first, NoneHold}
 use Rattle.tlp.proofs.RowLaws.{first-none, none-first}
 use Rattle.tlp.specs.declared.packet.Packet.{Packet}
 use Rattle.tlp_read.specs.Read.{readRows, readPacket, answerOf, payloadOf}
-use Rattle.read_rules.specs.declared.validity.Read.{Read}
-use Rattle.read_rules.specs.declared.piece.Piece.{Piece}
-use Rattle.read_rules.specs.declared.continuation.Origin.{Origin}
-use Rattle.read_rules.specs.Windows.{holdsWindow}
-use Rattle.read_rules.specs.Validity.{owedOf}
-use Rattle.read_rules.specs.Pieces.{pieceOf}
-use Rattle.read_rules.specs.Continuations.{succeeds, statusBad, legal, reported}
-use Rattle.read_slots.specs.declared.State.{State}
-use Rattle.read_slots.specs.declared.State.the-variants.{Free, Open}
-use Rattle.read_slots.specs.Slots.{isOpen}
+use Rattle.reads_rules.specs.declared.read.Read.{Read}
+use Rattle.reads_rules.specs.declared.piece.Piece.{Piece}
+use Rattle.reads_rules.specs.declared.origin.Origin.{Origin}
+use Rattle.reads_rules.specs.Windows.{holdsWindow}
+use Rattle.reads_rules.specs.Validity.{owedOf}
+use Rattle.reads_rules.specs.Pieces.{pieceOf}
+use Rattle.reads_rules.specs.Continuations.{succeeds, statusBad, legal, reported}
+use Rattle.reads_slots.specs.declared.State.{State}
+use Rattle.reads_slots.specs.declared.State.the-variants.{Free, Open}
+use Rattle.reads_slots.specs.Slots.{isOpen}
 use Rattle.reads.specs.declared.table.Table.{Table}
 use Rattle.reads.specs.declared.table.Taking.{Taking}
-use Rattle.read_answers.specs.declared.TakeAnswer.{TakeAnswer}
-use Rattle.read_answers.specs.declared.TakeAnswer.the-variants.{More, Done, Failed, Poisoned, Unread, Refused}
+use Rattle.reads_answers.specs.declared.TakeAnswer.{TakeAnswer}
+use Rattle.reads_answers.specs.declared.TakeAnswer.the-variants.{More, Done, Failed, Poisoned, Unread, Refused}
 use Rattle.reads.specs.Tables.{stateAt, validTable}
-use Rattle.read_answers.specs.Takes.{readIn, tagOf, ownRows, outcome, numberOr, packetAnswer}
+use Rattle.reads_answers.specs.Takes.{readIn, tagOf, ownRows, outcome, numberOr, packetAnswer}
 use Rattle.reads.specs.TakeCall.{packetTaking, packetStore, answerTaking, answerStore, tableGiven, storeGiven, takeCall, takeStore}
 use Rattle.cuttings.specs.Lawful.{packetIn, pieceIn, payloadIn, cleanPacket}
 use Rattle.reads_demands.specs.Demand2.{Continues}

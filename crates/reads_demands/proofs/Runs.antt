@@ -8,20 +8,20 @@ use native.Mathlib.Omega.{arith}
 use lib.Dec.{eqb, ltb}
 use borrow.Author.Tests.{eqb-true, eqb-false, ne-eqb, lt-ltb}
 use Rattle.bits.specs.Choice.{pick}
-use Rattle.scan.proofs.BelowLaws.{all-empty}
+use Rattle.scans.proofs.BelowLaws.{all-empty}
 use Rattle.tlp.specs.Rows.{first}
 use Rattle.tlp.specs.Settings.{settingsListed}
 use Rattle.tlp.specs.declared.settings.Settings.{Settings}
-use Rattle.read_rules.specs.declared.validity.Read.{Read}
-use Rattle.read_rules.specs.declared.continuation.Origin.{Origin}
-use Rattle.read_rules.specs.Requests.{requestRows}
-use Rattle.read_rules.specs.Windows.{storeLimit, windowEnd, placeRows, sharesByte}
-use Rattle.read_rules.specs.Validity.{validRead}
-use Rattle.read_slots.specs.declared.State.{State}
-use Rattle.read_slots.specs.declared.State.the-variants.{Free, Open}
-use Rattle.read_slots.specs.Slots.{validState, sharesIn}
-use Rattle.read_slots.specs.Records.{FitsIn}
-use Rattle.read_slots.proofs.RecordLaws.{free-fits, open-fits}
+use Rattle.reads_rules.specs.declared.read.Read.{Read}
+use Rattle.reads_rules.specs.declared.origin.Origin.{Origin}
+use Rattle.reads_rules.specs.Requests.{requestRows}
+use Rattle.reads_rules.specs.Windows.{storeLimit, windowEnd, placeRows, sharesByte}
+use Rattle.reads_rules.specs.Validity.{validRead}
+use Rattle.reads_slots.specs.declared.State.{State}
+use Rattle.reads_slots.specs.declared.State.the-variants.{Free, Open}
+use Rattle.reads_slots.specs.Slots.{validState, sharesIn}
+use Rattle.reads_slots.specs.Records.{FitsIn}
+use Rattle.reads_slots.proofs.RecordLaws.{free-fits, open-fits}
 use Rattle.reads.specs.declared.table.Table.{Table}
 use Rattle.reads.specs.TakeCall.{advanced}
 use Rattle.cuttings.specs.Lawful.{pieceIn}

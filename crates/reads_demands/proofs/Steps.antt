@@ -5,14 +5,14 @@ use mathlib.Core.Option.{Option, none, some}
 use mathlib.Core.List.{List, [], _∷_, _++_}
 use native.Mathlib.Omega.{arith}
 use lib.ListN.{length}
-use Rattle.read_rules.specs.declared.request.ReadRequest.{ReadRequest}
-use Rattle.read_slots.specs.declared.State.{State}
-use Rattle.read_slots.specs.declared.State.the-variants.{Free, Open}
+use Rattle.reads_rules.specs.declared.request.ReadRequest.{ReadRequest}
+use Rattle.reads_slots.specs.declared.State.{State}
+use Rattle.reads_slots.specs.declared.State.the-variants.{Free, Open}
 use Rattle.reads.specs.declared.table.Table.{Table}
 use Rattle.reads.specs.declared.answer.OpenAnswer.{OpenAnswer}
 use Rattle.reads.specs.declared.answer.OpenAnswer.the-variants.{Opened, Refused as OpenRefused}
-use Rattle.read_answers.specs.declared.TakeAnswer.{TakeAnswer}
-use Rattle.read_answers.specs.declared.TakeAnswer.the-variants.{More, Done, Failed, Poisoned, Unread, Refused}
+use Rattle.reads_answers.specs.declared.TakeAnswer.{TakeAnswer}
+use Rattle.reads_answers.specs.declared.TakeAnswer.the-variants.{More, Done, Failed, Poisoned, Unread, Refused}
 use Rattle.reads.specs.declared.answer.WithdrawAnswer.{WithdrawAnswer}
 use Rattle.reads.specs.declared.answer.WithdrawAnswer.the-variants.{Withdrawn, Refused as WithdrawRefused}
 use Rattle.reads.specs.Tables.{stateAt, withState}
@@ -22,7 +22,7 @@ use Rattle.reads.specs.OtherCalls.{tableWithdrawn, withdrawCall}
 use Rattle.cuttings.specs.Lawful.{pieceIn}
 use Rattle.reads_demands.specs.History.{Call, opening, taking, withdrawing, asking, Event}
 use Rattle.reads_demands.specs.History.{History, Change, keeps, opens, adds, closes, openChange, takeChange, withdrawChange, eventTag, eventChange, change}
-use Rattle.reads_demands.specs.History.{requestAfter, openRequest, piecesAfter, takenPieces, doublewords, recordFrom, recordOf}
+use Rattle.reads_demands.specs.History.{requestAfter, openRequest, piecesAfter, takenPieces, doublewords, recordFrom, recordsOf}
 use Rattle.reads_demands.specs.Demand3.{next, answered}
 use Rattle.reads_demands.proofs.OneTake.{take-table}
 
@@ -49,8 +49,8 @@ record-change (adds b) none bs = refl
 record-change (adds b) (some q) bs = rw (doublewords-end bs b)
 record-change closes r bs = refl
 
-pub record-step : (e : Event) (h : History) (u : ℕ) → recordOf (e ∷ h) u ≡ afterChange (change u e) (recordOf h u)
-unfolding recordOf openRequest takenPieces
+pub record-step : (e : Event) (h : History) (u : ℕ) → recordsOf (e ∷ h) u ≡ afterChange (change u e) (recordsOf h u)
+unfolding recordsOf openRequest takenPieces
 record-step e h u = record-change (change u e) (openRequest u h) (takenPieces u h)
 
 -- ---- the table

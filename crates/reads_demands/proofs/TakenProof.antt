@@ -7,11 +7,11 @@ use mathlib.Core.List.{List}
 use lib.Dec.{eqb}
 use borrow.Author.Tests.{eq-eqb}
 use Rattle.bits.specs.Choice.{pick}
-use Rattle.read_rules.specs.declared.validity.Read.{Read}
-use Rattle.read_rules.specs.Validity.{owedOf}
+use Rattle.reads_rules.specs.declared.read.Read.{Read}
+use Rattle.reads_rules.specs.Validity.{owedOf}
 use Rattle.reads.specs.declared.table.Table.{Table}
-use Rattle.read_answers.specs.declared.TakeAnswer.{TakeAnswer}
-use Rattle.read_answers.specs.declared.TakeAnswer.the-variants.{More, Done}
+use Rattle.reads_answers.specs.declared.TakeAnswer.{TakeAnswer}
+use Rattle.reads_answers.specs.declared.TakeAnswer.the-variants.{More, Done}
 use Rattle.reads.specs.TakeCall.{takeCall}
 use Rattle.cuttings.specs.Lawful.{pieceIn}
 use Rattle.reads_demands.specs.Demand2.{Continues, TakenExactly}

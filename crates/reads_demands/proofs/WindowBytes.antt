@@ -11,17 +11,17 @@ use lib.Seq.{getD-append-add}
 use borrow.Author.Tests.{ltb-true, ltb-false}
 use Rattle.bits.specs.Choice.{pick}
 use Rattle.byte_enables.specs.Enables.{enabled}
-use Rattle.read_rules.specs.declared.request.ReadRequest.{ReadRequest}
-use Rattle.read_rules.specs.Windows.{windowEnd}
-use Rattle.read_store.specs.Stores.{partAt, stored}
-use Rattle.read_store.proofs.StoreLaws.{stored-before, stored-in, stored-after}
-use Rattle.cuttings.specs.Lawful.{payloadIn, joined}
+use Rattle.reads_rules.specs.declared.request.ReadRequest.{ReadRequest}
+use Rattle.reads_rules.specs.Windows.{windowEnd}
+use Rattle.reads_store.specs.Stores.{partAt, stored}
+use Rattle.reads_store.proofs.StoreLaws.{stored-before, stored-in, stored-after}
+use Rattle.cuttings.specs.Lawful.{payloadIn, payloadsJoined}
 use Rattle.reads_demands.proofs.Limits.{either}
 
-pub joined-end : (bs : List (List ℕ)) (b : List ℕ) → joined (bs ++ (b ∷ [])) ≡ joined bs ++ payloadIn b
-unfolding joined
+pub joined-end : (bs : List (List ℕ)) (b : List ℕ) → payloadsJoined (bs ++ (b ∷ [])) ≡ payloadsJoined bs ++ payloadIn b
+unfolding payloadsJoined
 joined-end [] b = append-nil (payloadIn b)
-joined-end (x ∷ bs) b = rw (joined-end bs b, append-assoc (payloadIn x) (joined bs) (payloadIn b))
+joined-end (x ∷ bs) b = rw (joined-end bs b, append-assoc (payloadIn x) (payloadsJoined bs) (payloadIn b))
 
 -- byte k of the window when the first p doublewords, whose bytes are laid, came over what the store held at opening
 abbrev pub windowByte : ReadRequest → ℕ → List ℕ → List ℕ → ℕ → ℕ

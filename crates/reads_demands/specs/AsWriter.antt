@@ -9,8 +9,8 @@ use Rattle.tlp.specs.Settings.{settingsListed}
 use Rattle.tlp.specs.declared.settings.Settings.{Settings}
 use Rattle.tlp_write.specs.Layout.{sizeOf}
 use Rattle.tlp_write.specs.Write.{writeRows}
-use Rattle.read_rules.specs.declared.request.ReadRequest.{ReadRequest}
-use Rattle.read_rules.specs.Requests.{requestPacket, requestRows}
+use Rattle.reads_rules.specs.declared.request.ReadRequest.{ReadRequest}
+use Rattle.reads_rules.specs.Requests.{requestPacket, requestRows}
 
 -- for every request, listed settings, "one 16-bit requester ID", a tag of 8 bits, and an output of space bytes
 abbrev pub AsWriter : Type 0

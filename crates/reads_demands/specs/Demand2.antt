@@ -5,13 +5,13 @@ use mathlib.Core.Path.{_≡_}
 use mathlib.Core.Logic.{_⊎_, _↔_}
 use mathlib.Core.Bool.{true}
 use mathlib.Core.List.{List}
-use Rattle.read_rules.specs.declared.validity.Read.{Read}
-use Rattle.read_rules.specs.Validity.{owedOf}
-use Rattle.read_rules.specs.Windows.{holdsWindow}
-use Rattle.read_rules.specs.Continuations.{legal}
-use Rattle.read_slots.specs.declared.State.the-variants.{Open}
+use Rattle.reads_rules.specs.declared.read.Read.{Read}
+use Rattle.reads_rules.specs.Validity.{owedOf}
+use Rattle.reads_rules.specs.Windows.{holdsWindow}
+use Rattle.reads_rules.specs.Continuations.{legal}
+use Rattle.reads_slots.specs.declared.State.the-variants.{Open}
 use Rattle.reads.specs.declared.table.Table.{Table}
-use Rattle.read_answers.specs.declared.TakeAnswer.the-variants.{More, Done}
+use Rattle.reads_answers.specs.declared.TakeAnswer.the-variants.{More, Done}
 use Rattle.reads.specs.Tables.{stateAt, validTable}
 use Rattle.reads.specs.TakeCall.{takeCall}
 use Rattle.cuttings.specs.Lawful.{pieceIn, cleanPacket}

@@ -9,20 +9,20 @@ use lib.ListN.{length, getD}
 use Rattle.bits.specs.Choice.{pick}
 use Rattle.byte_enables.specs.Enables.{enabled}
 use Rattle.tlp.specs.Settings.{settingsListed}
-use Rattle.read_rules.specs.declared.request.ReadRequest.{ReadRequest}
-use Rattle.read_rules.specs.declared.continuation.Origin.{Origin}
-use Rattle.read_rules.specs.Windows.{windowEnd, holdsWindow}
-use Rattle.read_slots.specs.declared.State.{State}
-use Rattle.read_slots.specs.declared.State.the-variants.{Free, Open}
+use Rattle.reads_rules.specs.declared.request.ReadRequest.{ReadRequest}
+use Rattle.reads_rules.specs.declared.origin.Origin.{Origin}
+use Rattle.reads_rules.specs.Windows.{windowEnd, holdsWindow}
+use Rattle.reads_slots.specs.declared.State.{State}
+use Rattle.reads_slots.specs.declared.State.the-variants.{Free, Open}
 use Rattle.reads.specs.declared.table.Table.{Table}
-use Rattle.read_answers.specs.declared.TakeAnswer.the-variants.{More, Done}
+use Rattle.reads_answers.specs.declared.TakeAnswer.the-variants.{More, Done}
 use Rattle.reads.specs.Tables.{newTable, stateAt, validTable}
 use Rattle.reads.specs.Answers.{openNumber, takeNumber, withdrawNumber, owedNumber}
 use Rattle.reads.specs.OpenCall.{openCall, openOut}
 use Rattle.reads.specs.TakeCall.{takeCall, takeStore}
 use Rattle.reads.specs.OtherCalls.{withdrawCall, owedCall}
-use Rattle.cuttings.specs.Lawful.{pieceIn, lawfulCutting, joined}
-use Rattle.reads_demands.specs.History.{Call, opening, taking, withdrawing, asking, Event, openEvent, takeEvent, withdrawEvent, owedEvent, History, openRequest, takenPieces, recordOf, answersOf}
+use Rattle.cuttings.specs.Lawful.{pieceIn, lawfulCutting, payloadsJoined}
+use Rattle.reads_demands.specs.History.{Call, opening, taking, withdrawing, asking, Event, openEvent, takeEvent, withdrawEvent, owedEvent, History, openRequest, takenPieces, recordsOf, answersOf}
 
 -- ---- the table's step: the definitions that the calls of crate reads are equal to
 
@@ -136,7 +136,7 @@ pub record Delivered (q : ReadRequest) (tag : ℕ) (t : Table) (store₀ : List 
   pub done : takeCall (run t (calls mid)) b (length store) .answer ≡ Done
   pub free : stateAt (next (run t (calls mid)) (taking b store)) tag ≡ Free
   pub bytes : (k : ℕ) → k < 4 * q .access .length
-      → getD (takeStore (run t (calls mid)) b store) (q .start + k) 0 ≡ pick (enabled (q .access) k) (getD (joined (pieces mid ++ (b ∷ []))) k 0) (getD store₀ (q .start + k) 0)
+      → getD (takeStore (run t (calls mid)) b store) (q .start + k) 0 ≡ pick (enabled (q .access) k) (getD (payloadsJoined (pieces mid ++ (b ∷ []))) k 0) (getD store₀ (q .start + k) 0)
 
 -- "its tag is open, the tag's pieces taken since that opening and then its own are a lawful cutting, and its store, within its limit, can hold the window"
 pub record Ends (o : Origin) (h : History) (b store : List ℕ) : Type 0 where
@@ -165,7 +165,7 @@ pub record Refusal (t : Table) (c : Call) : Type 0 where
 pub record Demand3 (o : Origin) (cs : List Call) : Type 0 where
   -- "each answer, and after the list each tag's record, is what document 01 makes of the calls alone"
   pub says : answers (newTable o) [] cs ≡ answersOf o cs
-  pub records : (tag : ℕ) → stateAt (run (newTable o) cs) tag ≡ recordOf (answersOf o cs) tag
+  pub records : (tag : ℕ) → stateAt (run (newTable o) cs) tag ≡ recordsOf (answersOf o cs) tag
   -- "both fixed for its life"; the table stays valid, after every list and so before every call
   pub origin : run (newTable o) cs .origin ≡ o
   pub valid : validTable (run (newTable o) cs) ≡ true

@@ -5,11 +5,11 @@ use mathlib.Core.Bool.{true}
 use mathlib.Core.List.{List, [], _∷_, _++_}
 use lib.ListN.{length, replicate}
 use Rattle.tlp.specs.Settings.{settingsListed}
-use Rattle.read_rules.specs.declared.request.ReadRequest.{ReadRequest}
-use Rattle.read_rules.specs.declared.continuation.Origin.{Origin}
+use Rattle.reads_rules.specs.declared.request.ReadRequest.{ReadRequest}
+use Rattle.reads_rules.specs.declared.origin.Origin.{Origin}
 use Rattle.reads.specs.declared.table.Table.{Table}
 use Rattle.reads.specs.declared.answer.OpenAnswer.the-variants.{Opened}
-use Rattle.read_answers.specs.declared.TakeAnswer.the-variants.{More, Done, Refused}
+use Rattle.reads_answers.specs.declared.TakeAnswer.the-variants.{More, Done, Refused}
 use Rattle.reads.specs.declared.answer.WithdrawAnswer.the-variants.{Refused as WithdrawRefused}
 use Rattle.reads.specs.declared.answer.OwedAnswer.the-variants.{Owed}
 use Rattle.reads.specs.Tables.{newTable}
@@ -82,7 +82,7 @@ given =
     ∷ withdrawEvent 5 (WithdrawRefused 25)
     ∷ []
 
--- the list as before, opening, between, last piece and after
+-- the list as before, opening, between, last piece and afterwards
 abbrev pub before : List Call
 before = withdrawing 5 ∷ []
 
@@ -95,8 +95,8 @@ between =
     ∷ piece piece₂ (storeOf 14 rest₁)
     ∷ []
 
-abbrev pub after : List Call
-after = asking ∷ []
+abbrev pub afterwards : List Call
+afterwards = asking ∷ []
 
 -- the table after the opening
 abbrev pub opened : Table
@@ -105,7 +105,7 @@ opened = next (run (newTable origin) before) (opening read 5 (storeOf 10 rest₀
 -- every premise of `delivery` in Demand3, and the answers
 pub record Premises : Type 0 where
   pub listed : settingsListed (origin .settings) ≡ true
-  pub split : list ≡ before ++ (opening read 5 (storeOf 10 rest₀) out ∷ (calls between ++ (taking piece₃ (storeOf 15 rest₂) ∷ after)))
+  pub split : list ≡ before ++ (opening read 5 (storeOf 10 rest₀) out ∷ (calls between ++ (taking piece₃ (storeOf 15 rest₂) ∷ afterwards)))
   pub accepted : openNumber (openCall (run (newTable origin) before) read 5 (length (storeOf 10 rest₀)) (length out) .answer) ≡ 0
   pub lawful : lawfulCutting origin 5 read (pieces between ++ (piece₃ ∷ [])) ≡ true
   pub undisturbed : Undisturbed 5 opened between

@@ -5,10 +5,10 @@ use mathlib.Core.Path.{_≡_}
 use mathlib.Core.Bool.{true}
 use mathlib.Core.List.{List}
 use Rattle.tlp.specs.Settings.{settingsListed}
-use Rattle.read_rules.specs.declared.continuation.Origin.{Origin}
+use Rattle.reads_rules.specs.declared.origin.Origin.{Origin}
 use Rattle.reads.specs.declared.table.Table.{Table}
 use Rattle.reads.specs.Tables.{tagLimit, newTable, withState}
-use Rattle.reads_demands.specs.History.{Call, Records, recordOf, answersOf}
+use Rattle.reads_demands.specs.History.{Call, Records, recordsOf, answersOf}
 use Rattle.reads_demands.specs.Demand3.{run}
 
 -- a new table with the records of the tags below n put in
@@ -18,9 +18,9 @@ holding o (suc n) records = withState (holding o n records) n (records n)
 
 -- the theorem: the table after a list of calls is made of the records by the calls alone
 abbrev pub OneForm : Type 0
-OneForm = (o : Origin) (cs : List Call) → settingsListed (o .settings) ≡ true → run (newTable o) cs ≡ holding o (tagLimit (o .settings)) (recordOf (answersOf o cs))
+OneForm = (o : Origin) (cs : List Call) → settingsListed (o .settings) ≡ true → run (newTable o) cs ≡ holding o (tagLimit (o .settings)) (recordsOf (answersOf o cs))
 
 -- and so: lists of calls that leave the same records leave the same table
 abbrev pub SameRecords : Type 0
 SameRecords = (o : Origin) (cs ds : List Call) → settingsListed (o .settings) ≡ true
-    → ((u : ℕ) → u < tagLimit (o .settings) → recordOf (answersOf o cs) u ≡ recordOf (answersOf o ds) u) → run (newTable o) cs ≡ run (newTable o) ds
+    → ((u : ℕ) → u < tagLimit (o .settings) → recordsOf (answersOf o cs) u ≡ recordsOf (answersOf o ds) u) → run (newTable o) cs ≡ run (newTable o) ds

@@ -1,10 +1,10 @@
 // One table, lent and changed in place: thin calls over the by-value core.
-use read_answers::TakeAnswer;
-use read_rules::request::ReadRequest;
 use reads::answer::OpenAnswer;
 use reads::answer::OwedAnswer;
 use reads::answer::WithdrawAnswer;
 use reads::table::Table;
+use reads_answers::TakeAnswer;
+use reads_rules::request::ReadRequest;
 ghost use Rattle.reads_in_place.specs.LentTable.{OpenLeaves, TakeLeaves, WithdrawLeaves, OwedLeaves};
 
 // Table and answer are those of openCall, the output is openOut's.

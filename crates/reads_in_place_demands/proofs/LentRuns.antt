@@ -8,7 +8,7 @@ use Rattle.reads.specs.declared.table.Opening.{Opening}
 use Rattle.reads.specs.declared.table.Taking.{Taking}
 use Rattle.reads.specs.declared.table.Withdrawal.{Withdrawal}
 use Rattle.reads.specs.Tables.{stateAt}
-use Rattle.reads_demands.specs.History.{Call, opening, taking, withdrawing, asking, Event, openEvent, takeEvent, withdrawEvent, owedEvent, History, recordOf, answersOf}
+use Rattle.reads_demands.specs.History.{Call, opening, taking, withdrawing, asking, Event, openEvent, takeEvent, withdrawEvent, owedEvent, History, recordsOf, answersOf}
 use Rattle.reads_demands.specs.Demand3.{next, answered, left, outputLeft, run, answers}
 use Rattle.reads_demands.proofs.Whole.{demand3}
 use Rattle.reads_in_place_demands.specs.LentRuns.{Leaves, opens, takes, withdraws, asks, Lent, ends, calls, AsCore, LeavesAsCore, LentRuns, LentAsCore, LentDemand3Holds}
@@ -60,7 +60,7 @@ lent-as-core t h cs t′ h′ l = is-core l
 pub lent-demand3 : LentDemand3Holds
 lent-demand3 o cs t′ h′ listed l = record {
   says = says;
-  records = λ tag. ap (λ (u : Table). stateAt u tag) (is-core l .0) ∙ (demand3 o cs listed .records tag ∙ ap (λ (g : History). recordOf g tag) (sym says));
+  records = λ tag. ap (λ (u : Table). stateAt u tag) (is-core l .0) ∙ (demand3 o cs listed .records tag ∙ ap (λ (g : History). recordsOf g tag) (sym says));
   demand3 = demand3 o cs listed;
 }
   where

@@ -5,15 +5,15 @@ use mathlib.Core.Bool.{true}
 use mathlib.Core.Option.{Option, none, some}
 use mathlib.Core.List.{List, [], _∷_}
 use Rattle.tlp.specs.Settings.{settingsListed}
-use Rattle.read_rules.specs.declared.request.ReadRequest.{ReadRequest}
-use Rattle.read_rules.specs.declared.continuation.Origin.{Origin}
-use Rattle.read_answers.specs.declared.TakeAnswer.{TakeAnswer}
+use Rattle.reads_rules.specs.declared.request.ReadRequest.{ReadRequest}
+use Rattle.reads_rules.specs.declared.origin.Origin.{Origin}
+use Rattle.reads_answers.specs.declared.TakeAnswer.{TakeAnswer}
 use Rattle.reads.specs.declared.answer.OpenAnswer.{OpenAnswer}
 use Rattle.reads.specs.declared.answer.WithdrawAnswer.{WithdrawAnswer}
 use Rattle.reads.specs.declared.answer.OwedAnswer.{OwedAnswer}
 use Rattle.reads.specs.declared.table.Table.{Table}
 use Rattle.reads.specs.Tables.{newTable, stateAt}
-use Rattle.reads_demands.specs.History.{Call, opening, taking, withdrawing, asking, Event, openEvent, takeEvent, withdrawEvent, owedEvent, History, recordOf, answersOf}
+use Rattle.reads_demands.specs.History.{Call, opening, taking, withdrawing, asking, Event, openEvent, takeEvent, withdrawEvent, owedEvent, History, recordsOf, answersOf}
 use Rattle.reads_demands.specs.Demand3.{next, answered, left, outputLeft, run, answers, Demand3}
 use Rattle.reads_in_place.specs.LentTable.{OpenLeaves, TakeLeaves, WithdrawLeaves, OwedLeaves}
 
@@ -49,7 +49,7 @@ LentAsCore = (t : Table) (h : History) (cs : List Call) (t′ : Table) (h′ : H
 -- demand 3 of a table lent from new: "each answer, and after the list each tag's record, is what document 01 makes of the calls alone"
 pub record LentDemand3 (o : Origin) (cs : List Call) (t′ : Table) (h′ : History) : Type 0 where
   pub says : h′ ≡ answersOf o cs
-  pub records : (tag : ℕ) → stateAt t′ tag ≡ recordOf h′ tag
+  pub records : (tag : ℕ) → stateAt t′ tag ≡ recordsOf h′ tag
   pub demand3 : Demand3 o cs
 
 abbrev pub LentDemand3Holds : Type 0

@@ -18,7 +18,7 @@ use Rattle.text.specs.Number.{value, plain, plainly, empty, numberIn}
 use Rattle.text.specs.Hex.{hexNumber, spelledAnswer}
 use Rattle.text.specs.Decimal.{decimalNumber}
 use Rattle.text.specs.Words.{wordLength, wordEnd, startsWith, valueAt}
-use Rattle.text.specs.Fields.{badField, parsedField, between, readIn, fixedHex, decimalAfter, hexAfter}
+use Rattle.text.specs.Fields.{badField, parsedField, between, parsedIn, fixedHex, decimalAfter, hexAfter}
 use Rattle.text.specs.declared.number.Parsed.{Parsed}
 use Rattle.text.specs.declared.number.Parsed.the-variants.{Number, Bad}
 use Rattle.text.specs.declared.hex.Spelled.{Spelled}
@@ -105,7 +105,7 @@ some-16 : (width : ℕ) → 0 < 16 ^ width
 some-16 width = one-le-pow width 16 (zero-lt-suc 15)
 
 module _ (s key : List ℕ) (before r : Field) where
-  decimal-in-lt : (most : ℕ) (v : Value) → readIn (decimalNumber most) s v .value < suc most
+  decimal-in-lt : (most : ℕ) (v : Value) → parsedIn (decimalNumber most) s v .value < suc most
   decimal-in-lt most (Found from to) =
       let p : Parsed = decimalNumber most (between s from to) in
       parsed-lt p p to (suc most) refl (omega arith) (λ (n : ℕ) (h : p ≡ Number n). decimal-lt most n (suc most) (between s from to) p refl h (lt-ltb most (suc most) (omega arith)))
@@ -115,9 +115,9 @@ module _ (s key : List ℕ) (before r : Field) where
   unfolding decimalAfter
   decimal-after-le most e =
       let v : Value = valueAt s (before .next) key in
-      omega (arith, ap (λ (f : Field). f .value) e, bad-or (before .good) (readIn (decimalNumber most) s v) (suc most) (omega arith) (λ (g : before .good ≡ true). decimal-in-lt most v))
+      omega (arith, ap (λ (f : Field). f .value) e, bad-or (before .good) (parsedIn (decimalNumber most) s v) (suc most) (omega arith) (λ (g : before .good ≡ true). decimal-in-lt most v))
 
-  hex-in-lt : (width : ℕ) (v : Value) → readIn (fixedHex width) s v .value < 16 ^ width
+  hex-in-lt : (width : ℕ) (v : Value) → parsedIn (fixedHex width) s v .value < 16 ^ width
   hex-in-lt width (Found from to) =
       let digits : List ℕ = between s from to in
       let p : Parsed = fixedHex width digits in
@@ -130,7 +130,7 @@ module _ (s key : List ℕ) (before r : Field) where
   unfolding hexAfter
   hex-after-lt width e =
       let v : Value = valueAt s (before .next) key in
-      omega (arith, ap (λ (f : Field). f .value) e, bad-or (before .good) (readIn (fixedHex width) s v) (16 ^ width) (some-16 width) (λ (g : before .good ≡ true). hex-in-lt width v))
+      omega (arith, ap (λ (f : Field). f .value) e, bad-or (before .good) (parsedIn (fixedHex width) s v) (16 ^ width) (some-16 width) (λ (g : before .good ≡ true). hex-in-lt width v))
 
 -- ---- outputs
 

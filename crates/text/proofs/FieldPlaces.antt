@@ -9,7 +9,7 @@ use lib.ListN.{length}
 use Rattle.bits.specs.Choice.{pick}
 use Rattle.text.specs.Decimal.{decimalNumber}
 use Rattle.text.specs.Words.{startsWith, valueAt}
-use Rattle.text.specs.Fields.{badField, parsedField, between, readIn, decimalAfter, keyAfter}
+use Rattle.text.specs.Fields.{badField, parsedField, between, parsedIn, decimalAfter, keyAfter}
 use Rattle.text.specs.declared.number.Parsed.{Parsed}
 use Rattle.text.specs.declared.number.Parsed.the-variants.{Number, Bad}
 use Rattle.text.specs.declared.words.Value.{Value}
@@ -28,14 +28,14 @@ parsed-place Bad to g = absurd (false≢true g)
 
 module _ (s key : List ℕ) (before : Field) where
   module _ (most : ℕ) where
-    decimal-found : (v : Value) → v ≡ valueAt s (before .next) key → readIn (decimalNumber most) s v .good ≡ true → (before .next + length key ≤ readIn (decimalNumber most) s v .next) × (readIn (decimalNumber most) s v .next ≤ length s)
+    decimal-found : (v : Value) → v ≡ valueAt s (before .next) key → parsedIn (decimalNumber most) s v .good ≡ true → (before .next + length key ≤ parsedIn (decimalNumber most) s v .next) × (parsedIn (decimalNumber most) s v .next ≤ length s)
     decimal-found (Found from to) d g =
         let b = found-bounds s key (before .next) from to (Found from to) d refl in
         let e = parsed-place (decimalNumber most (between s from to)) to g in
         rw e (omega (arith, b .0, b .1 .0), b .1 .1)
     decimal-found Missing d g = absurd (false≢true g)
 
-    decimal-by : (t : Bool) → before .good ≡ t → pick t (readIn (decimalNumber most) s (valueAt s (before .next) key)) badField .good ≡ true → Placed (length s) before (length key) (pick t (readIn (decimalNumber most) s (valueAt s (before .next) key)) badField)
+    decimal-by : (t : Bool) → before .good ≡ t → pick t (parsedIn (decimalNumber most) s (valueAt s (before .next) key)) badField .good ≡ true → Placed (length s) before (length key) (pick t (parsedIn (decimalNumber most) s (valueAt s (before .next) key)) badField)
     decimal-by true e g = (e, decimal-found (valueAt s (before .next) key) refl g)
     decimal-by false e g = absurd (false≢true g)
 

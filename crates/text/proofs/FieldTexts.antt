@@ -15,7 +15,7 @@ use Rattle.text.specs.Number.{digits, digitCount}
 use Rattle.text.specs.Decimal.{decimalNumber, decimalText}
 use Rattle.text.specs.Hex.{hexNumber}
 use Rattle.text.specs.Words.{wordLength, wordEnd, beginsWith, startsWith, valueAt}
-use Rattle.text.specs.Fields.{badField, parsedField, between, readIn, fixedHex, decimalAfter, hexAfter, keyAfter}
+use Rattle.text.specs.Fields.{badField, parsedField, between, parsedIn, fixedHex, decimalAfter, hexAfter, keyAfter}
 use Rattle.text.specs.declared.number.Parsed.{Parsed}
 use Rattle.text.specs.declared.number.Parsed.the-variants.{Number, Bad}
 use Rattle.text.specs.declared.words.Value.{Value}
@@ -141,7 +141,7 @@ module _ (s key : List ℕ) (before : Field) where
   parsed-says text from to Bad d f g = absurd (false≢true g)
 
   module _ (most : ℕ) where
-    decimal-in : most < 2 ^ 64 → (v : Value) → valueAt s (before .next) key ≡ v → readIn (decimalNumber most) s v .good ≡ true → Says s key before decimalText (readIn (decimalNumber most) s v)
+    decimal-in : most < 2 ^ 64 → (v : Value) → valueAt s (before .next) key ≡ v → parsedIn (decimalNumber most) s v .good ≡ true → Says s key before decimalText (parsedIn (decimalNumber most) s v)
     decimal-in m (Found from to) d g = parsed-says decimalText from to (decimalNumber most (between s from to)) d (λ (n : ℕ) (h : decimalNumber most (between s from to) ≡ Number n). decimal-is most n (between s from to) m h .0) g
     decimal-in m Missing d g = absurd (false≢true g)
 
@@ -149,7 +149,7 @@ module _ (s key : List ℕ) (before : Field) where
     unfolding decimalAfter
     decimal-says m g =
         let v = valueAt s (before .next) key in
-        let f = picked-field (before .good) (readIn (decimalNumber most) s v) g in
+        let f = picked-field (before .good) (parsedIn (decimalNumber most) s v) g in
         (f .0, rw (f .0) (decimal-in m v refl (f .1)))
 
     pub decimal-stands : (n : ℕ) (rest : List ℕ) → n ≤ most → n < 2 ^ 64 → wordLength rest ≡ 0 → Stands s before (key ++ (decimalText n ++ rest))
@@ -161,11 +161,11 @@ module _ (s key : List ℕ) (before : Field) where
         let e = st .1 .1 in
         let w = word-digits 10 d rest (omega arith) (digits-good 10 (omega arith) (omega arith) (digitCount 10 n) n) z in
         let to = before .next + length key + length d in
-        let f : pick (before .good) (readIn (decimalNumber most) s (valueAt s (before .next) key)) badField ≡ record { good = true; value = n; next = to } = rw (st .0, value-is s key d rest (before .next) k e w, value-part s key d rest (before .next) k e, decimal-trip most n h l) in
+        let f : pick (before .good) (parsedIn (decimalNumber most) s (valueAt s (before .next) key)) badField ≡ record { good = true; value = n; next = to } = rw (st .0, value-is s key d rest (before .next) k e w, value-part s key d rest (before .next) k e, decimal-trip most n h l) in
         rw f ((refl, (value-size s key d rest (before .next) k e, value-after s key d rest (before .next) k e)), refl)
 
   module _ (width : ℕ) where
-    hex-in : (v : Value) → valueAt s (before .next) key ≡ v → readIn (fixedHex width) s v .good ≡ true → Says s key before (digits 16 width) (readIn (fixedHex width) s v)
+    hex-in : (v : Value) → valueAt s (before .next) key ≡ v → parsedIn (fixedHex width) s v .good ≡ true → Says s key before (digits 16 width) (parsedIn (fixedHex width) s v)
     hex-in (Found from to) d g =
         let b = between s from to in
         parsed-says (digits 16 width) from to (fixedHex width b) d (λ (n : ℕ) (h : fixedHex width b ≡ Number n).
@@ -177,7 +177,7 @@ module _ (s key : List ℕ) (before : Field) where
     unfolding hexAfter
     hex-says g =
         let v = valueAt s (before .next) key in
-        let f = picked-field (before .good) (readIn (fixedHex width) s v) g in
+        let f = picked-field (before .good) (parsedIn (fixedHex width) s v) g in
         (f .0, rw (f .0) (hex-in v refl (f .1)))
 
     pub hex-stands : (n : ℕ) (rest : List ℕ) → 0 < width → width ≤ 16 → n < 16 ^ width → wordLength rest ≡ 0 → Stands s before (key ++ (digits 16 width n ++ rest))
@@ -190,7 +190,7 @@ module _ (s key : List ℕ) (before : Field) where
         let w = word-digits 16 d rest (omega arith) (digits-good 16 (omega arith) (omega arith) width n) z in
         let to = before .next + length key + length d in
         let c : eqb (length d) width ≡ true = eq-eqb (length d) width (sym (length-digits 16 width n)) in
-        let f : pick (before .good) (readIn (fixedHex width) s (valueAt s (before .next) key)) badField ≡ record { good = true; value = n; next = to } = rw (st .0, value-is s key d rest (before .next) k e w, value-part s key d rest (before .next) k e, c, hex-fixed-trip width n p q l) in
+        let f : pick (before .good) (parsedIn (fixedHex width) s (valueAt s (before .next) key)) badField ≡ record { good = true; value = n; next = to } = rw (st .0, value-is s key d rest (before .next) k e w, value-part s key d rest (before .next) k e, c, hex-fixed-trip width n p q l) in
         rw f ((refl, (value-size s key d rest (before .next) k e, value-after s key d rest (before .next) k e)), refl)
 
   -- a key alone

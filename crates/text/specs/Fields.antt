@@ -31,13 +31,13 @@ abbrev pub between : List ℕ → ℕ → ℕ → List ℕ
 between s from to = take (to - from) (drop from s)
 
 -- a value, as parse reads it
-abbrev pub readIn : (List ℕ → Parsed) → List ℕ → Value → Field
-readIn parse s (Found from to) = parsedField (parse (between s from to)) to
-readIn parse s Missing = badField
+abbrev pub parsedIn : (List ℕ → Parsed) → List ℕ → Value → Field
+parsedIn parse s (Found from to) = parsedField (parse (between s from to)) to
+parsedIn parse s Missing = badField
 
 -- the value whose key stands just after the field before it
 abbrev pub readAfter : (List ℕ → Parsed) → List ℕ → Field → List ℕ → Field
-readAfter parse s before key = pick (before .good) (readIn parse s (valueAt s (before .next) key)) badField
+readAfter parse s before key = pick (before .good) (parsedIn parse s (valueAt s (before .next) key)) badField
 
 -- a decimal number that is not above most
 unfoldable pub decimalAfter : List ℕ → Field → List ℕ → ℕ → Field

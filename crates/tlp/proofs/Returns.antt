@@ -47,11 +47,11 @@ module _ (s : List ℕ) (b : ℕ) (t : PacketType) (n : ℕ) (e : b ≡ byte s 0
   number-is : n ≡ first (sizeRows s)
   number-is = rw (← e, ← h) q
 
-  pub size-refused : (n ≡ 0 → ⊥) → Refused (record { number = n }) ≡ sizeCalled s
+  pub size-refused : (n ≡ 0 → ⊥) → Refused n ≡ sizeCalled s
   unfolding sizeCalled
   size-refused z = rw (← number-is) (answer n z)
     where
-      answer : (n : ℕ) → (n ≡ 0 → ⊥) → Refused (record { number = n }) ≡ sizeAnswer n (bytesCalled (typeAt (byte s 0)) s)
+      answer : (n : ℕ) → (n ≡ 0 → ⊥) → Refused n ≡ sizeAnswer n (bytesCalled (typeAt (byte s 0)) s)
       answer zero z = absurd (z refl)
       answer (suc n) z = refl
 

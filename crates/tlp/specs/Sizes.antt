@@ -49,12 +49,12 @@ sizeRows s = typeRows (length s) (typeAt (byte s 0))
 
 abbrev pub sizeAnswer : ℕ → ℕ → PacketSize
 sizeAnswer zero size = Bytes size
-sizeAnswer (suc n) size = Refused (record { number = suc n })
+sizeAnswer (suc n) size = Refused (suc n)
 
 -- the number of an answer; 0 where there is a size
 abbrev pub numberOf : PacketSize → ℕ
 numberOf (Bytes n) = 0
-numberOf (Refused r) = r .number
+numberOf (Refused n) = n
 
 -- the size that the header at the front of the bytes calls for, or the number that says why there is none
 unfoldable pub sizeCalled : List ℕ → PacketSize

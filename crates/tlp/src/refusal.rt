@@ -1,4 +1,4 @@
-// A refusal carries its number from the list in numbers.txt.
+// The packet reader's refusal: its number from the list in numbers.txt.
 pub struct Refusal {
     pub number: u32,
 }

@@ -5,7 +5,6 @@ use crate::packet_type::has_data;
 use crate::packet_type::header_dw;
 use crate::packet_type::is_unlisted;
 use crate::packet_type::type_at;
-use crate::refusal::Refusal;
 use bits::word::byte_at;
 ghost use mathlib.Core.Path.{_≡_};
 ghost use mathlib.Core.Bool.{Bool, _&&_};
@@ -18,7 +17,7 @@ ghost use Rattle.tlp.specs.PacketTypes.{headerDw, familyOf, isUnlisted};
 
 pub enum PacketSize {
     Bytes(usize),
-    Refused(Refusal),
+    Refused(u32),
 }
 
 // A field in which 0 stands for the largest value.
@@ -114,7 +113,7 @@ pub fn packet_size(bytes: &[u8]) -> PacketSize
     let t = type_at(byte_at(bytes, 0));
     let n = type_number(bytes.len(), t);
     if n != 0 {
-        return PacketSize::Refused(Refusal { number: n });
+        return PacketSize::Refused(n);
     }
     PacketSize::Bytes(bytes_called(t, bytes))
 }

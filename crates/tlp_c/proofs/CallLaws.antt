@@ -3,15 +3,14 @@ use Prim.Native.Nat.{ℕ}
 use mathlib.Core.Path.{_≡_}
 use mathlib.Core.List.{List}
 use Rattle.tlp.specs.declared.settings.Settings.{Settings}
-use Rattle.tlp.specs.declared.refusal.Refusal.{Refusal}
 use Rattle.tlp_write.specs.declared.WriteAnswer.{WriteAnswer}
 use Rattle.tlp_write.specs.declared.WriteAnswer.the-variants.{Written, Refused as NotWritten}
 use Rattle.tlp_record_write.specs.RecordWrite.{recordAnswer}
 use Rattle.tlp_c.specs.Calls.{writeNumber, writtenSize}
 
 module _ (c : Settings) (s : List ℕ) (n room : ℕ) (x : WriteAnswer) (ex : x ≡ recordAnswer c s n room) where
-  module _ (r : Refusal) (q : x ≡ NotWritten r) where
-    pub not-written-number : r .number ≡ writeNumber c s n room
+  module _ (k : ℕ) (q : x ≡ NotWritten k) where
+    pub not-written-number : k ≡ writeNumber c s n room
     unfolding writeNumber
     not-written-number = rw (← ex, q)
 

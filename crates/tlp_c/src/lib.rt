@@ -53,7 +53,7 @@ pub extern "C" fn tollpebble_write(
     };
     let answer = write_record(settings, record, payload, out);
     match answer {
-        WriteAnswer::Refused(r) => r.number,
+        WriteAnswer::Refused(n) => n,
         WriteAnswer::Written(n) => {
             *size = n as u64;
             0

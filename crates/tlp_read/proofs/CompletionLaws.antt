@@ -21,7 +21,7 @@ use Rattle.tlp.specs.declared.packet_type.PacketType.the-variants.{Cpl, CplD}
 use Rattle.tlp.specs.declared.packet_type.Family.the-variants.{Completion}
 use Rattle.tlp.proofs.FamilyLaws.{completion-types}
 use Rattle.tlp_read.specs.Fields.{routeAt, kindAt, packetAt}
-use Rattle.tlp_read.specs.Read.{hintsBad, routingBad, formBad, readRows}
+use Rattle.tlp_read.specs.Read.{hintOrAddressTypeSet, routingBad, formBad, readRows}
 use Rattle.tlp_read.specs.Completions.{hasCompletion, completionType, completionIn, completionRows}
 
 -- ---- byte 0
@@ -74,7 +74,7 @@ completion-family b = go (eqb b 0x4A)
 -- the rows of a completion, whichever of the two types it has
 typed-rows : (c : Settings) (s : List ℕ) (t : PacketType) → settingsListed c ≡ true → 12 ≤ length s → typeAt (byte s 0) ≡ t → familyOf t ≡ Completion
     → first (readRows c s) ≡ first (completionRows (c .mps) (accessOf (packetAt t s) .length) s)
-unfolding first hintsBad plainBad enablesBad pageBad routingBad formBad bytesCalled dataBytes accessOf packetAt routeAt kindAt
+unfolding first hintOrAddressTypeSet plainBad enablesBad pageBad routingBad formBad bytesCalled dataBytes accessOf packetAt routeAt kindAt
 typed-rows c s t ok l e f =
     completion-types (λ u. typeAt (byte s 0) ≡ u → first (readRows c s) ≡ first (completionRows (c .mps) (accessOf (packetAt u s) .length) s))
     (λ k. rw (k, ok, le-ltb (length s) 12 l))

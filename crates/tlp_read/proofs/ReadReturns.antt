@@ -30,7 +30,7 @@ use Rattle.tlp.proofs.RowLaws.{here, next, here-not, next-not, here-lt, next-lt
 use Rattle.tlp_read.specs.declared.ReadAnswer.{ReadAnswer}
 use Rattle.tlp_read.specs.declared.ReadAnswer.the-variants.{Accepted, Refused}
 use Rattle.tlp_read.specs.Fields.{trafficClassAt, attributesAt, hintAt, addressTypeAt, addressAt, formAddress, routingAt, requestAt, configAt, routeAt, kindAt, packetAt}
-use Rattle.tlp_read.specs.Read.{hintsBad, routingBad, formBad, judgeRows, readRows, answerOf, readPacket}
+use Rattle.tlp_read.specs.Read.{hintOrAddressTypeSet, routingBad, formBad, judgeRows, readRows, answerOf, readPacket}
 
 -- ---- sizes
 
@@ -120,7 +120,7 @@ module _ (mps : ℕ) (t : PacketType) (s : List ℕ) (m : ℕ) where
   pub memory-rows : familyOf t ≡ Memory
       → m ≡ first (row 4 (hintAt s || not (eqb (addressTypeAt s) 0)) ∷ row 5 (ltb mps (dataBytes t (accessOf (packetAt t s) .length))) ∷ row 7 (not (enablesAllowed (accessOf (packetAt t s)))) ∷ row 8 (crossesPage (accessOf (packetAt t s))) ∷ row 10 (eqb (headerDw t) 4 && eqb (word 4 s 8) 0) ∷ [])
       → m ≡ first (judgeRows mps t s)
-  unfolding first hintsBad plainBad enablesBad pageBad routingBad formBad
+  unfolding first hintOrAddressTypeSet plainBad enablesBad pageBad routingBad formBad
   memory-rows h q = rw h q
 
   pub memory-rows-of : (a : Access) → familyOf t ≡ Memory → a ≡ accessOf (packetAt t s)
@@ -129,11 +129,11 @@ module _ (mps : ℕ) (t : PacketType) (s : List ℕ) (m : ℕ) where
   memory-rows-of a h e q = memory-rows h (rw e at q)
 
   pub message-rows : familyOf t ≡ Message → m ≡ first (row 5 (ltb mps (dataBytes t (accessOf (packetAt t s) .length))) ∷ row 9 (ltb 5 (routingAt s)) ∷ []) → m ≡ first (judgeRows mps t s)
-  unfolding first hintsBad plainBad enablesBad pageBad routingBad formBad
+  unfolding first hintOrAddressTypeSet plainBad enablesBad pageBad routingBad formBad
   message-rows h q = rw h q
 
   pub completion-rows : familyOf t ≡ Completion → m ≡ first (row 5 (ltb mps (dataBytes t (accessOf (packetAt t s) .length))) ∷ []) → m ≡ first (judgeRows mps t s)
-  unfolding first hintsBad plainBad enablesBad pageBad routingBad formBad
+  unfolding first hintOrAddressTypeSet plainBad enablesBad pageBad routingBad formBad
   completion-rows h q = rw h q
 
 -- Attr[1:0] of I/O and configuration is all of Attr
@@ -150,11 +150,11 @@ RegisterRows mps s t =
 
 module _ (mps : ℕ) (s : List ℕ) where
   io-rows : (t : PacketType) → familyOf t ≡ Io → RegisterRows mps s t
-  unfolding first hintsBad plainBad notPlain enablesBad pageBad routingBad formBad enablesAllowed accessOf packetAt attributesAt routeAt kindAt requestAt
+  unfolding first hintOrAddressTypeSet plainBad notPlain enablesBad pageBad routingBad formBad enablesAllowed accessOf packetAt attributesAt routeAt kindAt requestAt
   io-rows = io-types (RegisterRows mps s) (rw low-two) (rw low-two)
 
   config-rows : (t : PacketType) → familyOf t ≡ Config → RegisterRows mps s t
-  unfolding first hintsBad plainBad notPlain enablesBad pageBad routingBad formBad enablesAllowed accessOf packetAt attributesAt routeAt kindAt configAt requestAt
+  unfolding first hintOrAddressTypeSet plainBad notPlain enablesBad pageBad routingBad formBad enablesAllowed accessOf packetAt attributesAt routeAt kindAt configAt requestAt
   config-rows = config-types (RegisterRows mps s) (rw low-two) (rw low-two) (rw low-two) (rw low-two)
 
   by-family : (t : PacketType) (f : Family) → familyOf t ≡ f → isIoOrConfig f ≡ true → RegisterRows mps s t

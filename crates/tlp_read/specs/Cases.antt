@@ -14,7 +14,7 @@ use Rattle.tlp.specs.Sizes.{orMost, lengthAt, digestAt, dataBytes, digestBytes,
 use Rattle.tlp.specs.Contents.{notPlain, plainBad, enablesBad, pageBad}
 use Rattle.tlp.specs.declared.settings.Settings.{Settings}
 use Rattle.tlp_read.specs.Fields.{attributesAt, digestWord, requestAt, configAt, messageAt, completionAt, implicitAt, messageRouteAt, routeAt, kindAt, packetAt}
-use Rattle.tlp_read.specs.Read.{hintsBad, routingBad, formBad, readPacket, numberOf}
+use Rattle.tlp_read.specs.Read.{hintOrAddressTypeSet, routingBad, formBad, readPacket, numberOf}
 
 abbrev pub settings : Settings
 settings = record { mps = 128; mrrs = 512; rcb = 64 }
@@ -50,7 +50,7 @@ holds [] = true
 holds (c ∷ cs) = eqb (numberOf (readPacket settings (c .bytes))) (c .number) && holds cs
 
 pub cases-hold : holds cases ≡ true
-unfolding readPacket first settingsListed typeAt accessOf enablesAllowed orMost lengthAt digestAt dataBytes digestBytes bytesCalled notPlain plainBad enablesBad pageBad attributesAt digestWord requestAt configAt messageAt completionAt implicitAt messageRouteAt routeAt kindAt packetAt hintsBad routingBad formBad
+unfolding readPacket first settingsListed typeAt accessOf enablesAllowed orMost lengthAt digestAt dataBytes digestBytes bytesCalled notPlain plainBad enablesBad pageBad attributesAt digestWord requestAt configAt messageAt completionAt implicitAt messageRouteAt routeAt kindAt packetAt hintOrAddressTypeSet routingBad formBad
 cases-hold = refl
 
 -- P8 and the other two fields in which 0 is the largest: Length 1024, Byte Count 4096

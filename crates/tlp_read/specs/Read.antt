@@ -20,8 +20,8 @@ use Rattle.tlp_read.specs.declared.ReadAnswer.the-variants.{Accepted, Re
 use Rattle.tlp_read.specs.Fields.{hintAt, addressTypeAt, routingAt, packetAt}
 
 -- row 4: "memory request with TH set or AT not 0"
-unfoldable pub hintsBad : PacketType → List ℕ → Bool
-hintsBad t s = isMemory (familyOf t) && (hintAt s || not (eqb (addressTypeAt s) 0))
+unfoldable pub hintOrAddressTypeSet : PacketType → List ℕ → Bool
+hintOrAddressTypeSet t s = isMemory (familyOf t) && (hintAt s || not (eqb (addressTypeAt s) 0))
 
 -- row 9: "message routing 110 or 111"
 unfoldable pub routingBad : PacketType → List ℕ → Bool
@@ -34,7 +34,7 @@ formBad t s = isMemory (familyOf t) && (eqb (headerDw t) 4 && eqb (word 4 s 8) 0
 -- rows 4 to 10, of bytes of type t
 abbrev pub judgeRows : ℕ → PacketType → List ℕ → List Row
 judgeRows mps t s =
-    row 4 (hintsBad t s)
+    row 4 (hintOrAddressTypeSet t s)
     ∷ (contentRows mps t (packetAt t s) (addressTypeAt s)
     ++ (row 9 (routingBad t s)
     ∷ row 10 (formBad t s)

@@ -7,13 +7,13 @@ use lib.ListN.{length}
 use Rattle.bits.specs.Word.{byte}
 use Rattle.tlp.specs.declared.packet.Kind.{Kind}
 use Rattle.tlp.specs.declared.packet.Kind.the-variants.{MemoryRead, MemoryWrite, IoRead, IoWrite, ConfigRead0, ConfigWrite0, ConfigRead1, ConfigWrite1, Message, MessageData, Completion, CompletionData}
-use Rattle.tlp_record.specs.Record.{ownOf, recordOf, packetIn, isRecord}
+use Rattle.tlp_record.specs.Record.{ownOf, recordOf, recordPacket, isRecord}
 use Rattle.tlp_record.specs.RecordFacts.{RecordBack, RecordLength, RecordKind}
 use Rattle.tlp_record.proofs.RecordLaws.{same-yes}
 
 pub record-back : RecordBack
 unfolding isRecord
-record-back s e = same-yes (recordOf (packetIn s)) s e
+record-back s e = same-yes (recordOf (recordPacket s)) s e
 
 pub record-length : RecordLength
 unfolding recordOf
@@ -36,5 +36,5 @@ kind-number (CompletionData c n) = (omega arith, omega arith)
 pub record-kind : RecordKind
 unfolding recordOf
 record-kind s e =
-    let n : byte s 0 ≡ ownOf (packetIn s .kind) .kind = sym (ap (λ (l : List ℕ). byte l 0) (record-back s e)) in
-    rw n (kind-number (packetIn s .kind))
+    let n : byte s 0 ≡ ownOf (recordPacket s .kind) .kind = sym (ap (λ (l : List ℕ). byte l 0) (record-back s e)) in
+    rw n (kind-number (recordPacket s .kind))

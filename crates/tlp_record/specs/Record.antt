@@ -199,8 +199,8 @@ routeNumbered n s =
 unfoldable pub routeIn : List ℕ → Route
 routeIn s = routeNumbered (byte s 5) s
 
-unfoldable pub packetIn : List ℕ → Packet
-packetIn s = record {
+unfoldable pub recordPacket : List ℕ → Packet
+recordPacket s = record {
   «traffic_class» = byte s 1;
   attributes = byte s 2;
   poisoned = eqb (byte s 3) 1;
@@ -220,4 +220,4 @@ sameList (x ∷ xs) (y ∷ ys) = eqb x y && sameList xs ys
 -- whether bytes are a record: that of the packet that they describe. One of another length than 48, of an unknown kind or route, or with
 -- something in a field that the kind does not have, is not.
 unfoldable pub isRecord : List ℕ → Bool
-isRecord s = sameList (recordOf (packetIn s)) s
+isRecord s = sameList (recordOf (recordPacket s)) s

@@ -5,11 +5,11 @@ use mathlib.Core.Bool.{true}
 use mathlib.Core.List.{List}
 use lib.ListN.{length}
 use Rattle.bits.specs.Word.{byte}
-use Rattle.tlp_record.specs.Record.{recordOf, packetIn, isRecord}
+use Rattle.tlp_record.specs.Record.{recordOf, recordPacket, isRecord}
 
 -- A record is that of the packet that it describes.
 abbrev pub RecordBack : Type 0
-RecordBack = (s : List ℕ) → isRecord s ≡ true → recordOf (packetIn s) ≡ s
+RecordBack = (s : List ℕ) → isRecord s ≡ true → recordOf (recordPacket s) ≡ s
 
 -- A record has 48 bytes.
 abbrev pub RecordLength : Type 0

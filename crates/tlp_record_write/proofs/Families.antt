@@ -18,8 +18,8 @@ use Rattle.tlp.specs.PacketTypes.{familyOf, isIoOrConfig}
 use Rattle.tlp.specs.Packets.{addressOf, typeIn, typeOf}
 use Rattle.tlp.specs.declared.packet_type.PacketType.{PacketType}
 use Rattle.tlp.specs.declared.packet_type.PacketType.the-variants.{MRd32, MRd64, MWr32, MWr64}
-use Rattle.tlp_given.specs.Given.{outside, requestBad, configBad, messageBad, completionBad, ownBad, reservedGiven, addressRouteBad, idRouteBad, messageRouteBad, routeBad}
-use Rattle.tlp_record.specs.Record.{requestFields, configFields, messageFields, completionFields, ownOf, requestIn, configIn, messageIn, completionIn, kindNumbered, kindIn, routeNumbered, routeIn, packetIn}
+use Rattle.tlp_writable.specs.Given.{outside, requestBad, configBad, messageBad, completionBad, ownBad, reservedGiven, addressRouteBad, idRouteBad, messageRouteBad, routeBad}
+use Rattle.tlp_record.specs.Record.{requestFields, configFields, messageFields, completionFields, ownOf, requestIn, configIn, messageIn, completionIn, kindNumbered, kindIn, routeNumbered, routeIn, recordPacket}
 use Rattle.tlp_record_write.specs.Fit.{writable}
 use Rattle.tlp_record_write.specs.Shared.{flagsKept, routeKept, sharedFits}
 use Rattle.tlp_record_write.specs.Kinds.{allZero, requestOver, configOver, completionOver, notAddress, notMessage, memoryFits, ioFits, configFits, messageFits, completionFits}
@@ -203,7 +203,7 @@ module _ (s : List ℕ) (len : length s ≡ 48) (each : (i : ℕ) → Fits w8 (b
       route-known (byte s 5) (word 8 s 8) (and-eq-true-iff (routeKept (byte s 5) (word 8 s 8)) _ .0 (h .1) .0)
 
   writable-at : (n : ℕ) → n ≡ byte s 0 → writable s ≡ restAt n
-  unfolding kindIn routeIn packetIn reservedGiven typeOf
+  unfolding kindIn routeIn recordPacket reservedGiven typeOf
   writable-at n e = writable-is s len small shared ∙ ap (λ (m : ℕ). restAt m) (sym e)
 
   memory-at : (n : ℕ) → n ≡ byte s 0 → 1 ≤ n → n ≤ 2 → restAt n ≡ memoryFits s

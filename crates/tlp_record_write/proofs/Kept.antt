@@ -16,7 +16,7 @@ use Rattle.tlp.specs.declared.packet.Kind.{Kind}
 use Rattle.tlp.specs.declared.packet.Route.{Route}
 use Rattle.tlp.specs.declared.packet.Packet.{Packet}
 use Rattle.tlp_record.specs.declared.OwnFields.{OwnFields}
-use Rattle.tlp_record.specs.Record.{requestFields, configFields, messageFields, completionFields, ownOf, routeCase, routeValue, recordWith, recordOf, requestIn, configIn, messageIn, completionIn, kindNumbered, kindIn, routeNumbered, routeIn, packetIn, isRecord, sameList}
+use Rattle.tlp_record.specs.Record.{requestFields, configFields, messageFields, completionFields, ownOf, routeCase, routeValue, recordWith, recordOf, requestIn, configIn, messageIn, completionIn, kindNumbered, kindIn, routeNumbered, routeIn, recordPacket, isRecord, sameList}
 use Rattle.tlp_record.proofs.RecordLaws.{same-yes, same-self}
 
 -- ---- several tests
@@ -267,9 +267,9 @@ module _ (s : List ℕ) (small : AllBytes s) where
       && (eqb (byte s 5) (routeCase (routeNumbered (byte s 5) s))
       && (eqb (word 8 s 8) (routeValue (routeNumbered (byte s 5) s))
       && allTrue (ownKept s (ownOf (kindNumbered (byte s 0) s)))))))
-  unfolding isRecord recordOf packetIn kindIn routeIn
+  unfolding isRecord recordOf recordPacket kindIn routeIn
   record-kept len =
-      let p = packetIn s in
+      let p = recordPacket s in
       let f = ownOf (kindNumbered (byte s 0) s) in
       let o = own-facts (byte s 0) in
       same-bool (sameList (recordWith p f) s) (allTrue (kept s len small p f))

@@ -34,7 +34,7 @@ use Rattle.tlp_write.specs.Layout.{routing, routingIn, requestBytes, memoryAddr
 use Rattle.tlp_write.specs.Padded.{padded}
 use Rattle.tlp_write.specs.Head.{wordBytes, IsHead}
 use Rattle.tlp_write.specs.declared.words.Words.{Words}
-use Rattle.tlp_record.specs.Record.{requestIn, configIn, messageIn, completionIn, kindNumbered, kindIn, routeNumbered, routeIn, packetIn}
+use Rattle.tlp_record.specs.Record.{requestIn, configIn, messageIn, completionIn, kindNumbered, kindIn, routeNumbered, routeIn, recordPacket}
 use Rattle.tlp_record_write.specs.Fit.{writable}
 use Rattle.tlp_record_write.specs.Shared.{sharedFits}
 use Rattle.tlp_record_write.specs.Kinds.{allZero, requestOver, configOver, completionOver, lengthKept, notAddress, memoryFits, ioFits, configFits, messageFits, completionFits}
@@ -72,7 +72,7 @@ module _ (s : List ℕ) (o : Own) (r : Route) (k : Kind) (er : routeIn s ≡ r) 
   own-of : o .«packet_type» ≡ typeIn (addressOf r) k → o .routing ≡ routingIn r k
       → o .fault ≡ first (faultRows (familyOf (typeIn (addressOf r) k)) (accessIn (addressOf r) k) (byte s 1) (byte s 2) 0)
       → wordBytes (o .words) ≡ padded 12 (ownBytes r k) → word 4 s 28 ≡ accessIn (addressOf r) k .length → OwnOf o s
-  unfolding typeOf accessOf packetIn
+  unfolding typeOf accessOf recordPacket
   own-of et eg ef ew el = record {
     type-is = rw (er, ek) et;
     routing-is = rw (er, ek) eg;
@@ -385,8 +385,8 @@ pub head-is : (s : List ℕ) (o : Own) (t : PacketType) (w : Words) (b1 b2 b3 b4
       «has_digest» = eqb b4 1;
       digest = d;
       length = n;
-    }) (packetIn s)
-unfolding packetIn
+    }) (recordPacket s)
+unfolding recordPacket
 head-is s o t w b1 b2 b3 b4 d n i et ew e1 e2 e3 e4 ed en = record {
   type-is = et ∙ i .type-is;
   routing-is = i .routing-is;

@@ -10,7 +10,7 @@ use Rattle.bits.specs.Choice.{pick}
 use Rattle.tlp.specs.Settings.{settingsListed}
 use Rattle.tlp.specs.declared.settings.Settings.{Settings}
 use Rattle.tlp.specs.Rows.{first}
-use Rattle.tlp_given.specs.Given.{commonBad, ownBad, reservedGiven, routeBad, givenRows}
+use Rattle.tlp_writable.specs.Given.{commonBad, ownBad, reservedGiven, routeBad, givenRows}
 use Rattle.tlp_write.specs.declared.WriteAnswer.{WriteAnswer}
 use Rattle.tlp_write.specs.declared.WriteAnswer.the-variants.{Refused}
 use Rattle.tlp_write.specs.declared.head.Head.{Head}
@@ -18,14 +18,14 @@ use Rattle.tlp_write.specs.Layout.{bytesOf}
 use Rattle.tlp_write.specs.Write.{earlyRows, writePacket, outAfter, writeOut}
 use Rattle.tlp_write.specs.Head.{headAnswer, headOut, IsHead}
 use Rattle.tlp_write.proofs.WriteLaws.{head-answer, head-out}
-use Rattle.tlp_record.specs.Record.{packetIn, isRecord}
+use Rattle.tlp_record.specs.Record.{recordPacket, isRecord}
 use Rattle.tlp_record_write.specs.Fit.{writable}
 use Rattle.tlp_record_write.specs.Own.{OwnOf, OwnIs}
 use Rattle.tlp_record_write.specs.RecordWrite.{recordAnswer, recordOut}
 use Rattle.tlp_record_write.specs.declared.own.Own.{Own}
 
 abbrev refusedBy : ℕ → WriteAnswer
-refusedBy n = Refused (record { number = n })
+refusedBy n = Refused n
 
 -- a record that cannot be written has a row for the first 6
 first-six : (a b c d : Bool) (m : ℕ) → eqb (pick a 6 (pick b 6 (pick c 6 (pick d 6 0)))) 0 ≡ false → pick a 6 (pick b 6 (pick c 6 (pick d 6 m))) ≡ 6
@@ -61,10 +61,10 @@ module _ (c : Settings) (s : List ℕ) (l : Bool) (el : l ≡ settingsListed c) 
 
   module _ (h : not l ≡ false) where
     module _ (k : false ≡ writable s) where
-      refused-by-6 : isRecord s ≡ true → (n room : ℕ) → writePacket c (packetIn s) n room ≡ refusedBy 6
+      refused-by-6 : isRecord s ≡ true → (n room : ℕ) → writePacket c (recordPacket s) n room ≡ refusedBy 6
       unfolding writable writePacket first
       refused-by-6 r n room =
-          let p = packetIn s in
+          let p = recordPacket s in
           let g : eqb (first (givenRows p)) 0 ≡ false = not-fit (isRecord s) (first (givenRows p)) (sym k) r in
           rw (← el, h, first-six (commonBad p) (ownBad (p .kind)) (reservedGiven p) (routeBad (p .route) (p .kind)) _ g)
 
@@ -72,7 +72,7 @@ module _ (c : Settings) (s : List ℕ) (l : Bool) (el : l ≡ settingsListed c) 
       unfolding recordAnswer
       unfit-same n room = rw (← el, h) (by (isRecord s) refl)
         where
-          by : (b : Bool) → isRecord s ≡ b → pick (not b) (refusedBy 6) (writePacket c (packetIn s) n room) ≡ refusedBy 6
+          by : (b : Bool) → isRecord s ≡ b → pick (not b) (refusedBy 6) (writePacket c (recordPacket s) n room) ≡ refusedBy 6
           by true r = refused-by-6 r n room
           by false r = refl
 
@@ -83,24 +83,24 @@ module _ (c : Settings) (s : List ℕ) (l : Bool) (el : l ≡ settingsListed c) 
       unfolding recordOut
       unfit-out payload out = rw (unfit-same (length payload) (length out))
 
-    module _ (o : Own) (i : OwnIs o s) (k : not (o .fits) ≡ false) (d : Head) (j : IsHead d (packetIn s)) where
-      both : (isRecord s ≡ true) × (eqb (first (givenRows (packetIn s))) 0 ≡ true)
+    module _ (o : Own) (i : OwnIs o s) (k : not (o .fits) ≡ false) (d : Head) (j : IsHead d (recordPacket s)) where
+      both : (isRecord s ≡ true) × (eqb (first (givenRows (recordPacket s))) 0 ≡ true)
       unfolding writable
-      both = and-eq-true-iff (isRecord s) (eqb (first (givenRows (packetIn s))) 0) .0 (sym (i .0) ∙ not-false (o .fits) k)
+      both = and-eq-true-iff (isRecord s) (eqb (first (givenRows (recordPacket s))) 0) .0 (sym (i .0) ∙ not-false (o .fits) k)
 
-      none-early : 0 ≡ first (earlyRows c (packetIn s))
+      none-early : 0 ≡ first (earlyRows c (recordPacket s))
       unfolding first
-      none-early = rw (← el, h) (sym (eqb-true (first (givenRows (packetIn s))) 0 (both .1)))
+      none-early = rw (← el, h) (sym (eqb-true (first (givenRows (recordPacket s))) 0 (both .1)))
 
-      written-same : (n room : ℕ) → writePacket c (packetIn s) n room ≡ recordAnswer c s n room
+      written-same : (n room : ℕ) → writePacket c (recordPacket s) n room ≡ recordAnswer c s n room
       unfolding recordAnswer
       written-same n room = rw (← el, h, both .0)
 
       pub written-answer : (n room : ℕ) (x : WriteAnswer) → x ≡ headAnswer (c .mps) d n room → x ≡ recordAnswer c s n room
-      written-answer n room x q = head-answer d (packetIn s) j c 0 none-early refl n room x q ∙ written-same n room
+      written-answer n room x q = head-answer d (recordPacket s) j c 0 none-early refl n room x q ∙ written-same n room
 
       pub written-out : (payload out last : List ℕ) → last ≡ headOut (c .mps) d payload out → last ≡ recordOut c s payload out
       unfolding recordOut writeOut
       written-out payload out last q =
-          head-out d (packetIn s) j c 0 none-early refl payload out last q
-          ∙ ap (λ (x : WriteAnswer). outAfter x (bytesOf (packetIn s) payload) out) (written-same (length payload) (length out))
+          head-out d (recordPacket s) j c 0 none-early refl payload out last q
+          ∙ ap (λ (x : WriteAnswer). outAfter x (bytesOf (recordPacket s) payload) out) (written-same (length payload) (length out))

@@ -9,8 +9,8 @@ use mir.Syntax.{w8, w64}
 use borrow.Author.Tests.{eq-eqb, lt-leb, not-true, not-false}
 use Rattle.bits.specs.Word.{byte, word}
 use Rattle.bits.proofs.WordLaws.{word-lt}
-use Rattle.tlp_given.specs.Given.{outside, commonBad}
-use Rattle.tlp_record.specs.Record.{packetIn}
+use Rattle.tlp_writable.specs.Given.{outside, commonBad}
+use Rattle.tlp_record.specs.Record.{recordPacket}
 use Rattle.tlp_record_write.specs.Shared.{flagsKept, routeKept, sharedFits}
 use Rattle.tlp_record_write.specs.Kinds.{allZero, requestOver, configOver, completionOver, lengthKept, notAddress, notMessage, memoryFits, ioFits, configFits, messageFits, completionFits}
 
@@ -36,7 +36,7 @@ module _ (s : List ℕ) (r : Bool) where
   pub shared-law : (f t b : Bool) (a1 a2 a3 a4 a5 a4′ : ℕ) → ((i : ℕ) → Fits w8 (byte s i)) → r ≡ (f && (t && not b)) → f ≡ flagsKept a3 a4 → t ≡ routeKept a5 (word 8 s 8)
       → b ≡ (leb 8 a1 || (leb 8 a2 || (not (eqb a4′ 1) && not (eqb (word 4 s 24) 0)))) → a1 ≡ byte s 1 → a2 ≡ byte s 2 → a3 ≡ byte s 3 → a4 ≡ byte s 4 → a4′ ≡ byte s 4
       → a5 ≡ byte s 5 → r ≡ sharedFits s
-  unfolding sharedFits commonBad packetIn
+  unfolding sharedFits commonBad recordPacket
   shared-law f t b a1 a2 a3 a4 a5 a4′ each er ef et eb e1 e2 e3 e4 e4′ e5 =
       er ∙ rw (ef, et, eb, lt-leb (2 ^ 32) (word 4 s 24) (word-lt 4 s 24 (λ i l. each i .fits)), e1, e2, e3, e4, e4′, e5)
 

@@ -14,8 +14,8 @@ use Rattle.bits.specs.Choice.{pick, flag}
 use Rattle.bits.specs.Word.{byte, word}
 use Rattle.bits.proofs.WordLaws.{AllBytes, word-lt, word-split}
 use Rattle.tlp.specs.Rows.{first}
-use Rattle.tlp_given.specs.Given.{commonBad, ownBad, reservedGiven, routeBad, givenRows}
-use Rattle.tlp_record.specs.Record.{ownOf, routeCase, routeValue, kindNumbered, kindIn, routeNumbered, routeIn, packetIn, isRecord}
+use Rattle.tlp_writable.specs.Given.{commonBad, ownBad, reservedGiven, routeBad, givenRows}
+use Rattle.tlp_record.specs.Record.{ownOf, routeCase, routeValue, kindNumbered, kindIn, routeNumbered, routeIn, recordPacket, isRecord}
 use Rattle.tlp_record.proofs.RecordFacts.{record-length, record-kind}
 use Rattle.tlp_record_write.specs.Fit.{writable}
 use Rattle.tlp_record_write.specs.Shared.{flagsKept, routeKept, sharedFits}
@@ -96,22 +96,22 @@ module _ (s : List ℕ) (len : length s ≡ 48) (small : AllBytes s) where
       ∙ group (eqb (byte s 3) (flag (eqb (byte s 3) 1))) (eqb (byte s 4) (flag (eqb (byte s 4) 1))) (eqb (byte s 5) (routeCase (routeNumbered (byte s 5) s))) (eqb (word 8 s 8) (routeValue (routeNumbered (byte s 5) s))) (allTrue (ownKept s (ownOf (kindNumbered (byte s 0) s))))
       ∙ rw (flag-kept (byte s 3), flag-kept (byte s 4), route-kept (byte s 5) s small)
 
-  given-is : eqb (first (givenRows (packetIn s))) 0
-      ≡ not (commonBad (packetIn s)) && (not (ownBad (kindIn s)) && (not (reservedGiven (packetIn s)) && not (routeBad (routeIn s) (kindIn s))))
-  unfolding first packetIn
-  given-is = rows-none (commonBad (packetIn s)) (ownBad (kindIn s)) (reservedGiven (packetIn s)) (routeBad (routeIn s) (kindIn s))
+  given-is : eqb (first (givenRows (recordPacket s))) 0
+      ≡ not (commonBad (recordPacket s)) && (not (ownBad (kindIn s)) && (not (reservedGiven (recordPacket s)) && not (routeBad (routeIn s) (kindIn s))))
+  unfolding first recordPacket
+  given-is = rows-none (commonBad (recordPacket s)) (ownBad (kindIn s)) (reservedGiven (recordPacket s)) (routeBad (routeIn s) (kindIn s))
 
   shared-fails : sharedFits s ≡ false → false ≡ writable s
   unfolding writable sharedFits
-  shared-fails h = sym (ap (λ (b : Bool). b && eqb (first (givenRows (packetIn s))) 0) record-is ∙ rw given-is (shared-no (flagsKept (byte s 3) (byte s 4)) (routeKept (byte s 5) (word 8 s 8)) _ (not (commonBad (packetIn s))) _ h))
+  shared-fails h = sym (ap (λ (b : Bool). b && eqb (first (givenRows (recordPacket s))) 0) record-is ∙ rw given-is (shared-no (flagsKept (byte s 3) (byte s 4)) (routeKept (byte s 5) (word 8 s 8)) _ (not (commonBad (recordPacket s))) _ h))
 
   -- the rest, of a record whose shared part fits
   pub writable-is : sharedFits s ≡ true
       → writable s
       ≡ allTrue (ownKept s (ownOf (kindNumbered (byte s 0) s)))
-      && (not (ownBad (kindIn s)) && (not (reservedGiven (packetIn s)) && not (routeBad (routeIn s) (kindIn s))))
+      && (not (ownBad (kindIn s)) && (not (reservedGiven (recordPacket s)) && not (routeBad (routeIn s) (kindIn s))))
   unfolding writable sharedFits
-  writable-is h = ap (λ (b : Bool). b && eqb (first (givenRows (packetIn s))) 0) record-is ∙ rw given-is (shared-yes (flagsKept (byte s 3) (byte s 4)) (routeKept (byte s 5) (word 8 s 8)) _ (not (commonBad (packetIn s))) _ h)
+  writable-is h = ap (λ (b : Bool). b && eqb (first (givenRows (recordPacket s))) 0) record-is ∙ rw given-is (shared-yes (flagsKept (byte s 3) (byte s 4)) (routeKept (byte s 5) (word 8 s 8)) _ (not (commonBad (recordPacket s))) _ h)
 
 pub not-shared : (s : List ℕ) (r : Bool) → length s ≡ 48 → ((i : ℕ) → Fits w8 (byte s i)) → r ≡ sharedFits s → not r ≡ true → false ≡ writable s
 not-shared s r len small e h = shared-fails s len (λ i l. small i .fits) (sym e ∙ not-true r h)
@@ -123,7 +123,7 @@ no-record : (s : List ℕ) → (isRecord s ≡ true → ⊥) → false ≡ writa
 unfolding writable
 no-record s h = by (isRecord s) refl
   where
-    by : (b : Bool) → isRecord s ≡ b → false ≡ isRecord s && eqb (first (givenRows (packetIn s))) 0
+    by : (b : Bool) → isRecord s ≡ b → false ≡ isRecord s && eqb (first (givenRows (recordPacket s))) 0
     by true e = absurd (h e)
     by false e = rw e
 

@@ -4,9 +4,9 @@ use mathlib.Core.Bool.{Bool, _&&_}
 use mathlib.Core.List.{List}
 use lib.Dec.{eqb}
 use Rattle.tlp.specs.Rows.{first}
-use Rattle.tlp_given.specs.Given.{givenRows}
-use Rattle.tlp_record.specs.Record.{packetIn, isRecord}
+use Rattle.tlp_writable.specs.Given.{givenRows}
+use Rattle.tlp_record.specs.Record.{recordPacket, isRecord}
 
 -- a record, of a packet that holds nothing for which the writer gives its first 6
 unfoldable pub writable : List ℕ → Bool
-writable s = isRecord s && eqb (first (givenRows (packetIn s))) 0
+writable s = isRecord s && eqb (first (givenRows (recordPacket s))) 0

@@ -6,7 +6,7 @@ use lib.Dec.{eqb, leb}
 use Rattle.bits.specs.Choice.{pick}
 use Rattle.bits.specs.Field.{field}
 use Rattle.bits.specs.Word.{byte, word}
-use Rattle.tlp_given.specs.Given.{over, outside}
+use Rattle.tlp_writable.specs.Given.{over, outside}
 
 abbrev pub allZero : ℕ → ℕ → ℕ → ℕ → Bool
 allZero a b c d = eqb a 0 && (eqb b 0 && (eqb c 0 && eqb d 0))

@@ -16,7 +16,7 @@ use Rattle.tlp.specs.declared.packet_type.PacketType.the-variants.{MRd32, MRd64
 use Rattle.tlp_write.specs.Layout.{routingIn, ownBytes}
 use Rattle.tlp_write.specs.Padded.{padded}
 use Rattle.tlp_write.specs.Head.{wordBytes}
-use Rattle.tlp_record.specs.Record.{packetIn}
+use Rattle.tlp_record.specs.Record.{recordPacket}
 use Rattle.tlp_record_write.specs.Fit.{writable}
 use Rattle.tlp_record_write.specs.declared.own.Own.{Own}
 
@@ -32,11 +32,11 @@ abbrev pub caseRouting : ℕ → ℕ
 caseRouting n = pick (eqb n 1) 2 (pick (eqb n 2) 0 (pick (eqb n 3) 3 (pick (eqb n 4) 4 (pick (eqb n 5) 5 1))))
 
 pub record OwnOf (o : Own) (s : List ℕ) : Type 0 where
-  pub type-is : o .«packet_type» ≡ typeOf (packetIn s)
-  pub routing-is : o .routing ≡ routingIn (packetIn s .route) (packetIn s .kind)
-  pub fault-is : o .fault ≡ first (faultRows (familyOf (typeOf (packetIn s))) (accessOf (packetIn s)) (packetIn s .«traffic_class») (packetIn s .attributes) 0)
-  pub words-are : wordBytes (o .words) ≡ padded 12 (ownBytes (packetIn s .route) (packetIn s .kind))
-  pub length-is : word 4 s 28 ≡ accessOf (packetIn s) .length
+  pub type-is : o .«packet_type» ≡ typeOf (recordPacket s)
+  pub routing-is : o .routing ≡ routingIn (recordPacket s .route) (recordPacket s .kind)
+  pub fault-is : o .fault ≡ first (faultRows (familyOf (typeOf (recordPacket s))) (accessOf (recordPacket s)) (recordPacket s .«traffic_class») (recordPacket s .attributes) 0)
+  pub words-are : wordBytes (o .words) ≡ padded 12 (ownBytes (recordPacket s .route) (recordPacket s .kind))
+  pub length-is : word 4 s 28 ≡ accessOf (recordPacket s) .length
 
 -- of a record that can be written
 abbrev pub OwnIs : Own → List ℕ → Type 0

@@ -10,14 +10,14 @@ use Rattle.tlp_write.specs.declared.WriteAnswer.{WriteAnswer}
 use Rattle.tlp_write.specs.declared.WriteAnswer.the-variants.{Refused}
 use Rattle.tlp_write.specs.Layout.{bytesOf}
 use Rattle.tlp_write.specs.Write.{writePacket, outAfter}
-use Rattle.tlp_record.specs.Record.{packetIn, isRecord}
+use Rattle.tlp_record.specs.Record.{recordPacket, isRecord}
 
 unfoldable pub recordAnswer : Settings → List ℕ → ℕ → ℕ → WriteAnswer
 recordAnswer c s n room =
-    pick (not (settingsListed c)) (Refused (record { number = 11 }))
-    (pick (not (isRecord s)) (Refused (record { number = 6 }))
-    (writePacket c (packetIn s) n room))
+    pick (not (settingsListed c)) (Refused 11)
+    (pick (not (isRecord s)) (Refused 6)
+    (writePacket c (recordPacket s) n room))
 
 -- the output afterwards: the packet over its front, or as it was
 unfoldable pub recordOut : Settings → List ℕ → List ℕ → List ℕ → List ℕ
-recordOut c s payload out = outAfter (recordAnswer c s (length payload) (length out)) (bytesOf (packetIn s) payload) out
+recordOut c s payload out = outAfter (recordAnswer c s (length payload) (length out)) (bytesOf (recordPacket s) payload) out

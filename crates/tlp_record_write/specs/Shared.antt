@@ -5,8 +5,8 @@ use mathlib.Core.List.{List}
 use lib.Dec.{eqb, leb, ltb}
 use Rattle.bits.specs.Choice.{pick}
 use Rattle.bits.specs.Word.{byte, word}
-use Rattle.tlp_given.specs.Given.{commonBad}
-use Rattle.tlp_record.specs.Record.{packetIn}
+use Rattle.tlp_writable.specs.Given.{commonBad}
+use Rattle.tlp_record.specs.Record.{recordPacket}
 
 -- "poisoned: 0 or 1", "digest present: 0 or 1"
 abbrev pub flagsKept : ℕ → ℕ → Bool
@@ -17,4 +17,4 @@ abbrev pub routeKept : ℕ → ℕ → Bool
 routeKept route value = pick (eqb route 0) true (pick (eqb route 1) (ltb value (2 ^ 16)) (leb route 5 && eqb value 0))
 
 unfoldable pub sharedFits : List ℕ → Bool
-sharedFits s = flagsKept (byte s 3) (byte s 4) && (routeKept (byte s 5) (word 8 s 8) && not (commonBad (packetIn s)))
+sharedFits s = flagsKept (byte s 3) (byte s 4) && (routeKept (byte s 5) (word 8 s 8) && not (commonBad (recordPacket s)))

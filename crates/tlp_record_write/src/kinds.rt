@@ -3,7 +3,7 @@ use crate::place::eight;
 use crate::place::four;
 use crate::place::one;
 use crate::place::two;
-use tlp_given::outside_of;
+use tlp_writable::outside_of;
 ghost use mathlib.Core.Path.{_≡_};
 ghost use mathlib.Core.Bool.{_&&_};
 ghost use Prim.Native.Nat.{_%_, _^_};

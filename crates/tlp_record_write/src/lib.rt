@@ -7,7 +7,6 @@ mod shared;
 use crate::own::head_in;
 use crate::own::own_in;
 use crate::shared::shared_fits;
-use tlp::refusal::Refusal;
 use tlp::settings::Settings;
 use tlp::settings::settings_listed;
 use tlp_write::WriteAnswer;
@@ -17,9 +16,9 @@ ghost use lib.ListN.{length};
 ghost use Rattle.tlp_record_write.specs.RecordWrite.{recordAnswer, recordOut};
 
 fn refused(number: u32) -> WriteAnswer
-    ensures { λ r. ⌜ r ≡ WriteAnswer.Refused (record { number = number }) ⌝ }
+    ensures { λ r. ⌜ r ≡ WriteAnswer.Refused number ⌝ }
 {
-    WriteAnswer::Refused(Refusal { number: number })
+    WriteAnswer::Refused(number)
 }
 
 // The packet over the front of the output, or the first number that is given, with the output as it was.

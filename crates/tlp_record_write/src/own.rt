@@ -30,7 +30,7 @@ ghost use Prim.Native.Nat.{_≤_, _<_};
 ghost use lib.ListN.{length};
 ghost use Rattle.bits.specs.Choice.{pick};
 ghost use Rattle.bits.specs.Word.{byte};
-ghost use Rattle.tlp_record.specs.Record.{requestIn, configIn, messageIn, completionIn, packetIn};
+ghost use Rattle.tlp_record.specs.Record.{requestIn, configIn, messageIn, completionIn, recordPacket};
 ghost use Rattle.tlp_write.specs.Head.{IsHead};
 ghost use Rattle.tlp_record_write.specs.Shared.{sharedFits};
 ghost use Rattle.tlp_record_write.specs.Own.{memoryType, configType, caseRouting, OwnOf, OwnIs};
@@ -270,7 +270,7 @@ pub(crate) fn own_in(s: &[u8]) -> Own
 pub(crate) fn head_in(o: Own, s: &[u8]) -> Head
     requires { ⌜ length (now s) ≡ 48 ⌝ }
     requires { ⌜ OwnOf o (now s) ⌝ }
-    ensures { λ h. ⌜ IsHead h (packetIn (now (s .entry))) ⌝ }
+    ensures { λ h. ⌜ IsHead h (recordPacket (now (s .entry))) ⌝ }
 {
     let t = o.packet_type;
     let words = o.words;

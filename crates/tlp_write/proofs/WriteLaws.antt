@@ -122,7 +122,7 @@ module _ (h : Head) (payload : List ℕ) where
 
 -- ---- answers
 
-answer-refused : (n size : ℕ) → (n ≡ 0 → ⊥) → Refused (record { number = n }) ≡ writeAnswer n size
+answer-refused : (n size : ℕ) → (n ≡ 0 → ⊥) → Refused n ≡ writeAnswer n size
 answer-refused zero size z = absurd (z refl)
 answer-refused (suc n) size z = refl
 
@@ -135,7 +135,7 @@ both-clear false false false zero e = (refl, refl)
 both-clear false false z (suc f) e = absurd (omega (arith, rw (ne-eqb (suc f) 0 (λ q. omega arith)) at e))
 
 module _ (mps : ℕ) (h : Head) (payload out : List ℕ) (n : ℕ) (e : n ≡ first (headRows mps h (length payload) (length out))) where
-  pub refused : (n ≡ 0 → ⊥) → Refused (record { number = n }) ≡ headAnswer mps h (length payload) (length out)
+  pub refused : (n ≡ 0 → ⊥) → Refused n ≡ headAnswer mps h (length payload) (length out)
   unfolding headAnswer
   refused z = rw (← e) (answer-refused n (wholeSize h) z)
 
@@ -267,7 +267,7 @@ module _ (h : Head) (p : Packet) (i : IsHead h p) where
 -- ---- with the early rows
 
 module _ (c : Settings) (p : Packet) (n : ℕ) (e : n ≡ first (earlyRows c p)) where
-  pub early-refused : (k room : ℕ) → (n ≡ 0 → ⊥) → Refused (record { number = n }) ≡ writePacket c p k room
+  pub early-refused : (k room : ℕ) → (n ≡ 0 → ⊥) → Refused n ≡ writePacket c p k room
   unfolding writePacket
   early-refused k room z = rw (← some-of (earlyRows c p) (laterRows c p k room) n e z) (answer-refused n (sizeOf p) z)
 

@@ -11,7 +11,7 @@ use Rattle.tlp.specs.Sizes.{dataBytes}
 use Rattle.tlp.specs.Contents.{contentRows}
 use Rattle.tlp.specs.declared.settings.Settings.{Settings}
 use Rattle.tlp.specs.declared.packet.Packet.{Packet}
-use Rattle.tlp_given.specs.Given.{givenRows}
+use Rattle.tlp_writable.specs.Given.{givenRows}
 use Rattle.tlp_write.specs.Layout.{sizeOf, bytesOf}
 use Rattle.tlp_write.specs.declared.WriteAnswer.{WriteAnswer}
 use Rattle.tlp_write.specs.declared.WriteAnswer.the-variants.{Written, Refused}
@@ -34,7 +34,7 @@ writeRows c p n room = earlyRows c p ++ laterRows c p n room
 
 abbrev pub writeAnswer : ℕ → ℕ → WriteAnswer
 writeAnswer zero size = Written size
-writeAnswer (suc n) size = Refused (record { number = suc n })
+writeAnswer (suc n) size = Refused (suc n)
 
 -- what writing answers: the number of the first row that holds, else the size written
 unfoldable pub writePacket : Settings → Packet → ℕ → ℕ → WriteAnswer
@@ -43,7 +43,7 @@ writePacket c p n room = writeAnswer (first (writeRows c p n room)) (sizeOf p)
 -- the number of an answer; 0 for written
 abbrev pub numberOf : WriteAnswer → ℕ
 numberOf (Written n) = 0
-numberOf (Refused r) = r .number
+numberOf (Refused n) = n
 
 -- bytes over the front of an output
 abbrev pub overFront : List ℕ → List ℕ → List ℕ
@@ -51,7 +51,7 @@ overFront xs out = xs ++ drop (length xs) out
 
 abbrev pub outAfter : WriteAnswer → List ℕ → List ℕ → List ℕ
 outAfter (Written n) xs out = overFront xs out
-outAfter (Refused r) xs out = out
+outAfter (Refused n) xs out = out
 
 -- the output afterwards: "on success output beyond the packet is unchanged"; after a refusal all of it is
 unfoldable pub writeOut : Settings → Packet → List ℕ → List ℕ → List ℕ

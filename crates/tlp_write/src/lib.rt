@@ -12,12 +12,11 @@ use tlp::packet::access_of;
 use tlp::packet::type_of;
 use tlp::packet_type::PacketType;
 use tlp::packet_type::header_dw;
-use tlp::refusal::Refusal;
 use tlp::settings::Settings;
 use tlp::settings::settings_listed;
 use tlp::size::data_bytes;
 use tlp::size::digest_bytes;
-use tlp_given::given_number;
+use tlp_writable::given_number;
 ghost use mathlib.Core.Path.{_≡_};
 ghost use mathlib.Core.List.{_++_};
 ghost use Prim.Native.Nat.{_+_, _≤_};
@@ -34,7 +33,7 @@ ghost use Rattle.tlp_write.specs.Write.{earlyRows, layAnswer, layOut, wr
 
 pub enum WriteAnswer {
     Written(usize),
-    Refused(Refusal),
+    Refused(u32),
 }
 
 fn is_wide(t: PacketType) -> bool
@@ -130,7 +129,7 @@ pub fn write_head(mps: u32, h: Head, payload: &[u8], out: &mut [u8]) -> WriteAns
     let size = whole_size(t, held, h.has_digest);
     let n = head_number(mps, h, held, size, payload.len(), out.len());
     if n != 0 {
-        return WriteAnswer::Refused(Refusal { number: n });
+        return WriteAnswer::Refused(n);
     }
     put_packet(h, payload, out);
     WriteAnswer::Written(size)
@@ -151,7 +150,7 @@ pub fn write(settings: Settings, p: Packet, payload: &[u8], out: &mut [u8]) -> W
 {
     let early = early_number(settings, p);
     if early != 0 {
-        return WriteAnswer::Refused(Refusal { number: early });
+        return WriteAnswer::Refused(early);
     }
     write_head(settings.mps, head_of(p), payload, out)
 }

@@ -32,12 +32,12 @@ use denote.Triple.Spec.{Meets, tripleOf}
 use denote.Triple.Table.{entered, cited}
 use denote.Triple.Walked.{says, Stays, stay-ref, stay-none, stay-none-slice, gave-slice, walkOf, AllGo, goes-ref, goes-none, goes-none-slice, goes-gave-slice, Walks, ends-at, walked, walk-meets}
 use denote.Exit.{yes}
-use Rattle.read_rules.specs.declared.request.ReadRequest.{ReadRequest}
+use Rattle.reads_rules.specs.declared.request.ReadRequest.{ReadRequest}
 use Rattle.reads.specs.declared.table.Table.{Table}
 use Rattle.reads.specs.declared.table.Opening.{Opening}
 use Rattle.reads.specs.OpenCall.{openCall, openOut}
-use Rattle.read_rules.proofs.request.ReadRequest as Q
-use Rattle.read_rules.proofs.request.ReadRequest.Laws as Q′
+use Rattle.reads_rules.proofs.request.ReadRequest as Q
+use Rattle.reads_rules.proofs.request.ReadRequest.Laws as Q′
 use Rattle.reads.proofs.table.Table as T
 use Rattle.reads.proofs.table.Opening as N
 use Rattle.reads.proofs.answer.OpenAnswer as R

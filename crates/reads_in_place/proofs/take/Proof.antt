@@ -34,8 +34,8 @@ use Rattle.reads.specs.declared.table.Taking.{Taking}
 use Rattle.reads.specs.TakeCall.{takeCall, takeStore}
 use Rattle.reads.proofs.table.Table as T
 use Rattle.reads.proofs.table.Taking as N
-use Rattle.read_answers.proofs.TakeAnswer as R
-use Rattle.read_answers.proofs.TakeAnswer.Laws as R′
+use Rattle.reads_answers.proofs.TakeAnswer as R
+use Rattle.reads_answers.proofs.TakeAnswer.Laws as R′
 use Rattle.reads.proofs.table.Table.take as core
 use Rattle.reads.proofs.table.Table.take.Symbol as core-def
 use Rattle.reads.proofs.table.Table.take.Symbol.{name as #reads·take}

@@ -1,6 +1,0 @@
-// The rules of one memory read: what open refuses of it, where its window lies, and which completions continue it.
-pub mod continuation;
-pub mod piece;
-pub mod request;
-pub mod validity;
-pub mod window;

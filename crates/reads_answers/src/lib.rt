@@ -1,0 +1,109 @@
+// What take answers to a packet, from the record of its tag.
+use byte_enables::Access;
+use reads_rules::continuation::differs_from;
+use reads_rules::continuation::has_success;
+use reads_rules::continuation::is_legal;
+use reads_rules::continuation::reported_status;
+use reads_rules::continuation::status_bad;
+use reads_rules::origin::Origin;
+use reads_rules::piece::Piece;
+use reads_rules::read::Read;
+use reads_rules::request::ReadRequest;
+use reads_rules::validity::owed_of;
+use reads_rules::window::holds_window;
+use reads_slots::State;
+use reads_slots::is_open;
+use tlp::refusal::Refusal;
+ghost use mathlib.Core.Path.{_≡_};
+ghost use Rattle.tlp.specs.Rows.{first};
+ghost use Rattle.reads_answers.specs.Takes.{readIn, pieceRows, outcome, pieceAnswer};
+
+// Unread is the packet reader's own refusal, passed on whole.
+pub enum TakeAnswer {
+    More,
+    Done,
+    Failed(u8),
+    Poisoned,
+    Unread(Refusal),
+    Refused(u32),
+}
+
+// The read that a record holds; zeros where it is free.
+pub fn read_in(x: State) -> Read
+    ensures { λ r. ⌜ r ≡ readIn x ⌝ }
+{
+    match x {
+        State::Open(r) => r,
+        State::Free => Read {
+            request: ReadRequest {
+                access: Access {
+                    address: 0,
+                    length: 0,
+                    first: 0,
+                    last: 0,
+                },
+                traffic_class: 0,
+                attributes: 0,
+                start: 0,
+            },
+            taken: 0,
+        },
+    }
+}
+
+// The first of 30 to 34 that holds; 0 where none does. A failing status is answered before 33 and 34 are looked at.
+fn piece_number(o: Origin, x: State, c: Piece, room: u64) -> u32
+    ensures { λ n. ⌜ n ≡ first (pieceRows o x c room) ⌝ }
+{
+    if c.requester != o.requester {
+        return 30;
+    }
+    if !is_open(x) {
+        return 30;
+    }
+    let r = read_in(x);
+    if differs_from(r, c) {
+        return 31;
+    }
+    if status_bad(c) {
+        return 32;
+    }
+    if !has_success(c) {
+        return 0;
+    }
+    if !is_legal(o, r, c) {
+        return 33;
+    }
+    if !holds_window(r.request, room) {
+        return 34;
+    }
+    0
+}
+
+// The answer to a completion that has no number.
+fn outcome_of(r: Read, c: Piece) -> TakeAnswer
+    ensures { λ a. ⌜ a ≡ outcome r c ⌝ }
+{
+    let h = c.header;
+    if !has_success(c) {
+        return TakeAnswer::Failed(reported_status(h.status));
+    }
+    if c.poisoned {
+        return TakeAnswer::Poisoned;
+    }
+    if c.length == owed_of(r) {
+        return TakeAnswer::Done;
+    }
+    TakeAnswer::More
+}
+
+// The answer to a completion that was read.
+pub fn piece_answer(o: Origin, x: State, c: Piece, room: u64) -> TakeAnswer
+    ensures { λ a. ⌜ a ≡ pieceAnswer o x c room ⌝ }
+{
+    let n = piece_number(o, x, c, room);
+    if n != 0 {
+        return TakeAnswer::Refused(n);
+    }
+    outcome_of(read_in(x), c)
+}

@@ -1,0 +1,28 @@
+-- Document 01: "A tag's record is whether it is open and, if so, p and what open got".
+use Prim.Native.Nat.{ℕ}
+use mathlib.Core.Bool.{Bool, true, false}
+use Rattle.tlp.specs.declared.settings.Settings.{Settings}
+use Rattle.reads_rules.specs.declared.request.ReadRequest.{ReadRequest}
+use Rattle.reads_rules.specs.Windows.{sharesByte}
+use Rattle.reads_rules.specs.Validity.{validRead, owedOf}
+use Rattle.reads_slots.specs.declared.State.{State}
+use Rattle.reads_slots.specs.declared.State.the-variants.{Free, Open}
+
+abbrev pub isOpen : State → Bool
+isOpen Free = false
+isOpen (Open r) = true
+
+-- "closed records are not looked at"
+abbrev pub validState : Settings → State → Bool
+validState s Free = true
+validState s (Open r) = validRead s r
+
+-- 24 of one record: "window shares a byte with an open read's window"
+abbrev pub sharesIn : ReadRequest → State → Bool
+sharesIn q Free = false
+sharesIn q (Open r) = sharesByte q (r .request)
+
+-- what one record adds to "the sum of L - p over open reads"
+abbrev pub owedIn : State → ℕ
+owedIn Free = 0
+owedIn (Open r) = owedOf r

@@ -1,0 +1,24 @@
+-- What inner functions state of one word of the set, and no promise does: w is the word, from its first tag, b a bit of it.
+use Prim.Native.Nat.{ℕ, _+_}
+use mathlib.Core.Bool.{Bool}
+use mathlib.Core.List.{List}
+use Rattle.bits.specs.Choice.{pick}
+use Rattle.bits.specs.Field.{bit}
+use Rattle.tlp.specs.declared.settings.Settings.{Settings}
+use Rattle.reads_rules.specs.declared.request.ReadRequest.{ReadRequest}
+use Rattle.reads_words.specs.Words.{readAt}
+use Rattle.reads_slots.specs.declared.State.{State}
+use Rattle.reads_slots.specs.declared.State.the-variants.{Free, Open}
+use Rattle.reads_slots.specs.Slots.{validState, sharesIn, owedIn}
+
+unfoldable pub recordIn : ℕ → List ℕ → ℕ → ℕ → State
+recordIn w words from b = pick (bit w b) (Open (readAt words (from + b))) Free
+
+unfoldable pub validIn : Settings → ℕ → List ℕ → ℕ → ℕ → Bool
+validIn s w words from b = validState s (recordIn w words from b)
+
+unfoldable pub sharesInWord : ReadRequest → ℕ → List ℕ → ℕ → ℕ → Bool
+sharesInWord q w words from b = sharesIn q (recordIn w words from b)
+
+unfoldable pub owedInWord : ℕ → List ℕ → ℕ → ℕ → ℕ
+owedInWord w words from b = owedIn (recordIn w words from b)

@@ -1,4 +1,0 @@
-// Turns of calls on a table, by value, in place and over what is lent of it: each line names its way.
-fn main() {
-    reads_turns::run_named();
-}
