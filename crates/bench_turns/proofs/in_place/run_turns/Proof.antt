@@ -449,6 +449,6 @@ run-turns-spec 𝓤 H 𝓜 𝓖 𝓡 =
       opening = cited 𝓤 H (Open 𝓤 H (𝓖 .A) (𝓜 .mem) (𝓡 .run)) 𝓜 𝓡 code.env #in-place·open opens-def.routine code.calls-reads-in-place·open (opens-thm.met 𝓤 H 𝓜 𝓖 𝓡);
       taking = cited 𝓤 H (Take 𝓤 H (𝓖 .A) (𝓜 .mem) (𝓡 .run)) 𝓜 𝓡 code.env #in-place·take takes-def.routine code.calls-reads-in-place·take (takes-thm.met 𝓤 H 𝓜 𝓖 𝓡);
       withdrawing = cited 𝓤 H (Withdraw 𝓤 H (𝓖 .A) (𝓜 .mem) (𝓡 .run)) 𝓜 𝓡 code.env #in-place·withdraw withdraws-def.routine code.calls-reads-in-place·withdraw (withdraws-thm.met 𝓤 H 𝓜 𝓖 𝓡);
-      take-coding = cited 𝓤 H (TakeCode 𝓤 H (𝓖 .A) (𝓜 .mem) (𝓡 .run)) 𝓜 𝓡 code.env #take-turn-code take-code-def.routine code.calls-reads-turns·code·take-turn-code (take-code-thm.met 𝓤 H 𝓜 𝓖 𝓡);
-      withdraw-coding = cited 𝓤 H (WithdrawCode 𝓤 H (𝓖 .A) (𝓜 .mem) (𝓡 .run)) 𝓜 𝓡 code.env #withdraw-turn-code withdraw-code-def.routine code.calls-reads-turns·code·withdraw-turn-code (withdraw-code-thm.met 𝓤 H 𝓜 𝓖 𝓡);
+      take-coding = cited 𝓤 H (TakeCode 𝓤 H (𝓖 .A) (𝓜 .mem) (𝓡 .run)) 𝓜 𝓡 code.env #take-turn-code take-code-def.routine code.calls-bench-turns·code·take-turn-code (take-code-thm.met 𝓤 H 𝓜 𝓖 𝓡);
+      withdraw-coding = cited 𝓤 H (WithdrawCode 𝓤 H (𝓖 .A) (𝓜 .mem) (𝓡 .run)) 𝓜 𝓡 code.env #withdraw-turn-code withdraw-code-def.routine code.calls-bench-turns·code·withdraw-turn-code (withdraw-code-thm.met 𝓤 H 𝓜 𝓖 𝓡);
     }))
