@@ -1,17 +1,25 @@
 #!/usr/bin/env python3
 """Fills the marked parts of the documents and of the C header from their sources: the numbers from numbers.txt, the packet record from
-record.txt, the definitions to read and the lines of each crate from the tree.
+record.txt, the definitions to believe, the lines of each crate and the must-fail edits from the tree.
 
     documents.py --write    fill them
-    documents.py --check    fail, with one line, where one is not what it would be filled with
+    documents.py --check    fail, with a line for each fault, where a part is not what it would be filled with, a document is larger than
+                            it may be, a line is too wide, or a name stands for nothing in the tree
 """
+import glob
 import os
 import re
 import sys
 import textwrap
 
 ROOT = os.path.dirname(os.path.dirname(os.path.dirname(os.path.abspath(__file__))))
-DOCUMENTS = ["README.md", "docs/RECORD.md", "docs/LANDINGS.md", "host/include/tollpebble.h"]
+HEADER = "host/include/tollpebble.h"
+# The most bytes of a document, the columns of a line, and the lines of an entry in docs/LANDINGS.md.
+SIZES = {"README.md": 8192, "docs/PROMISES.md": 66560}
+COLUMNS = 120
+ENTRY_LINES = 15
+# PROMISES has a check of its own (promises.py); LANDINGS is history, with the names of its day.
+NAMES_UNCHECKED = ["docs/PROMISES.md", "docs/LANDINGS.md"]
 
 
 def path(*parts):
@@ -21,6 +29,16 @@ def path(*parts):
 def lines_of(name):
     with open(name, encoding="utf-8") as f:
         return f.read().splitlines()
+
+
+def text_of(name):
+    with open(path(name), encoding="utf-8") as f:
+        return f.read()
+
+
+def documents():
+    """Every document, README first."""
+    return ["README.md"] + sorted(os.path.relpath(n, ROOT) for n in glob.glob(path("docs", "*.md")))
 
 
 def crates():
@@ -134,6 +152,18 @@ def files_below(folder, ending):
     return sorted(found)
 
 
+def spec_files(crate, inner):
+    """A crate's files of definitions: those to believe, or those of specs/Inner, which serve inner functions and proofs alone."""
+    specs = path("crates", crate, "specs")
+    lists = [os.path.join(specs, "Lib.antt"), os.path.join(specs, "Inner.antt")]
+    hidden = os.path.join(specs, "Inner") + os.sep
+    return [n for n in files_below(specs, ".antt") if n not in lists and n.startswith(hidden) == inner]
+
+
+def lines_in(names):
+    return sum(len(lines_of(n)) for n in names)
+
+
 def heading(text):
     """The comment at the head of a file, as one line."""
     said = []
@@ -145,34 +175,46 @@ def heading(text):
 
 
 def definitions():
-    """The files of definitions with their line counts and the first words of each."""
-    rows = ["| File | Lines | What it defines |", "|---|---|---|"]
-    total = 0
+    """The files of definitions to believe with their line counts and the first words of each."""
+    rows = ["| File under crates/ | Lines | What it defines |", "|---|---|---|"]
     for crate in crates():
-        for name in files_below(path("crates", crate, "specs"), ".antt"):
+        for name in spec_files(crate, False):
             text = lines_of(name)
-            if os.path.basename(name) == "Lib.antt":
-                continue
-            total += len(text)
             said = re.split(r"(?<=[.]) ", heading(text))[0]
-            rows.append("| crates/%s/specs/%s | %d | %s |" % (crate, os.path.basename(name), len(text), said))
-    rows.append("| all | %d | |" % total)
+            rows.append("| %s | %d | %s |" % (os.path.relpath(name, path("crates")), len(text), said))
     return rows
 
 
+def believed():
+    """How much there is to believe."""
+    names = [n for crate in crates() for n in spec_files(crate, False)]
+    return ["To believe: %s lines of definitions in %d files." % (format(lines_in(names), ","), len(names))]
+
+
 def counts():
-    """Lines of code, definitions and proof of each crate."""
-    rows = ["| Crate | Code | Definitions | Proof | Proof to a line of code |", "|---|---|---|---|---|"]
-    sums = [0, 0, 0]
+    """Lines of code, of definitions to believe, of inner definitions and of proof of each crate."""
+    rows = ["| Crate | Code | Definitions | Inner definitions | Proof | Proof to a line of code |", "|---|---|---|---|---|---|"]
+    sums = [0, 0, 0, 0]
     for crate in crates():
-        three = [
-            sum(len(lines_of(n)) for n in files_below(path("crates", crate, folder), ending))
-            for folder, ending in (("src", ".rt"), ("specs", ".antt"), ("proofs", ".antt"))
+        lines = [
+            lines_in(files_below(path("crates", crate, "src"), ".rt")),
+            lines_in(spec_files(crate, False)),
+            lines_in(spec_files(crate, True)),
+            lines_in(files_below(path("crates", crate, "proofs"), ".antt")),
         ]
-        sums = [a + b for a, b in zip(sums, three)]
-        ratio = "%.1f" % (three[2] / three[0]) if three[0] > 1 else "theorems only"
-        rows.append("| %s | %d | %d | %d | %s |" % (crate, *three, ratio))
-    rows.append("| all | %d | %d | %d | %.1f |" % (*sums, sums[2] / sums[0]))
+        sums = [a + b for a, b in zip(sums, lines)]
+        ratio = "%.1f" % (lines[3] / lines[0]) if lines[0] > 1 else "theorems only"
+        rows.append("| %s | %d | %d | %d | %d | %s |" % (crate, *lines, ratio))
+    rows.append("| all | %d | %d | %d | %d | %.1f |" % (*sums, sums[3] / sums[0]))
+    return rows
+
+
+def edits():
+    """The must-fail edits, each with the promise that it breaks: the first line of its file."""
+    rows = ["| Edit | The promise that it breaks |", "|---|---|"]
+    for crate in crates():
+        for name in sorted(glob.glob(path("crates", crate, "must-fail", "*.edit"))):
+            rows.append("| %s/%s | %s |" % (crate, os.path.basename(name)[:-5], lines_of(name)[0].lstrip("# ")))
     return rows
 
 
@@ -180,7 +222,9 @@ PARTS = {
     "numbers": numbers,
     "record": record,
     "definitions": definitions,
+    "believed": believed,
     "counts": counts,
+    "edits": edits,
     "c_numbers": c_numbers,
     "c_sentences": c_sentences,
     "c_offsets": c_offsets,
@@ -194,19 +238,96 @@ def filled(text):
     return MARKS.sub(lambda match: match["start"] + "\n".join(PARTS[match["name"]]()) + "\n" + match["end"], text)
 
 
+# ---- faults of a document
+
+
+def is_wide(line):
+    """A row of a table and a line of code can't be wrapped."""
+    return len(line) > COLUMNS and not line.startswith(("|", "    "))
+
+
+def wide_lines(name):
+    """The lines that are too wide, outside made parts, tables and code."""
+    found = []
+    made = code = False
+    for at, line in enumerate(text_of(name).splitlines(), 1):
+        if line.startswith("<!-- "):
+            made = line.startswith("<!-- made: ")
+        elif line.startswith("```"):
+            code = not code
+        elif not made and not code and is_wide(line):
+            found.append("%s:%d: %d columns, more than %d" % (name, at, len(line), COLUMNS))
+    return found
+
+
+def long_entries(name):
+    """The entries that are too long, of a document whose entries begin with `## N.`."""
+    found = []
+    for entry in re.split(r"(?m)^## ", text_of(name))[1:]:
+        title, _, body = entry.partition("\n")
+        lines = len(body.strip().splitlines())
+        if re.match(r"\d+\.", title) and lines > ENTRY_LINES:
+            found.append("%s: entry %s has %d lines, more than %d" % (name, title, lines, ENTRY_LINES))
+    return found
+
+
+def is_there(word, names):
+    """Whether a word that names a file, an edit, a module or a function finds it."""
+    file = re.match(r"(?:crates/)?(\w+)/((?:specs|proofs|src)/[\w/]+\.\w+)$", word)
+    if file and file[1] in names:
+        return os.path.exists(path("crates", file[1], file[2]))
+    edit = re.match(r"(\w+)/([a-z0-9_]+)$", word)
+    if edit and edit[1] in names:
+        return os.path.exists(path("crates", edit[1], "must-fail", edit[2] + ".edit"))
+    function = re.match(r"(\w+)::(?:\w+::)*(\w+)$", word)
+    if function and function[1] in names:
+        sources = files_below(path("crates", function[1], "src"), ".rt")
+        module = os.path.exists(path("crates", function[1], "src", function[2] + ".rt"))
+        return module or any(re.search(r"\bfn %s\b" % function[2], text_of(n)) for n in sources)
+    if re.match(r"(docs|host|samples)/[\w/]+\.\w+$", word):
+        return os.path.exists(path(word))
+    return True
+
+
+def missing_names(name):
+    """What stands between backticks and names nothing."""
+    names = crates()
+    words = re.findall(r"`([^`\n]+)`", text_of(name))
+    return ["%s: nothing is called %s" % (name, word) for word in dict.fromkeys(words) if not is_there(word, names)]
+
+
+def faults():
+    found = []
+    for name in documents() + [HEADER]:
+        if filled(text_of(name)) != text_of(name):
+            found.append("%s: a made part is stale: run host/tools/documents.py --write" % name)
+    for name in documents():
+        size = os.path.getsize(path(name))
+        if size > SIZES.get(name, size):
+            found.append("%s: %d bytes, more than %d" % (name, size, SIZES[name]))
+        found += wide_lines(name)
+        if name not in NAMES_UNCHECKED:
+            found += missing_names(name)
+    return found + long_entries("docs/LANDINGS.md")
+
+
+def write():
+    for name in documents() + [HEADER]:
+        new = filled(text_of(name))
+        if new != text_of(name):
+            with open(path(name), "w", encoding="utf-8") as f:
+                f.write(new)
+
+
 def main():
-    if sys.argv[1:] not in (["--write"], ["--check"]):
+    if sys.argv[1:] == ["--write"]:
+        write()
+    elif sys.argv[1:] == ["--check"]:
+        found = faults()
+        if found:
+            sys.exit("\n".join(found))
+    else:
         sys.exit(__doc__)
-    for name in DOCUMENTS:
-        with open(path(name), encoding="utf-8") as f:
-            text = f.read()
-        new = filled(text)
-        if new == text:
-            continue
-        if sys.argv[1] == "--check":
-            sys.exit("%s: a made part is stale: run host/tools/documents.py --write" % name)
-        with open(path(name), "w", encoding="utf-8") as f:
-            f.write(new)
 
 
 main()
