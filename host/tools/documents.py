@@ -292,7 +292,7 @@ def is_there(word, names):
 def missing_names(name):
     """What stands between backticks and names nothing."""
     names = crates()
-    words = re.findall(r"`([^`\n]+)`", text_of(name))
+    words = [" ".join(word.split()) for word in re.findall(r"`([^`]+)`", text_of(name))]
     return ["%s: nothing is called %s" % (name, word) for word in dict.fromkeys(words) if not is_there(word, names)]
 
 
