@@ -1,6 +1,6 @@
 #!/usr/bin/env python3
 """Fills the marked parts of the documents and of the C header from their sources: the numbers from numbers.txt, the packet record from
-record.txt, the definitions to believe, the lines of each crate and the must-fail edits from the tree.
+record.txt, the definitions to believe, the lines of each crate, the must-fail edits and the example of a table from the tree.
 
     documents.py --write    fill them
     documents.py --check    fail, with a line for each fault, where a part is not what it would be filled with, a document is larger than
@@ -218,6 +218,14 @@ def edits():
     return rows
 
 
+def example():
+    """The calls of the example of a table, and what they print."""
+    source = text_of("crates/example_table/src/main.rt")
+    calls = source[source.index("// ---- calls"):].rstrip().splitlines()
+    printed = lines_of(path("crates", "example_table", "stdout"))
+    return ["```rust"] + calls + ["```", "", "prints", "", "```"] + printed + ["```"]
+
+
 PARTS = {
     "numbers": numbers,
     "record": record,
@@ -225,6 +233,7 @@ PARTS = {
     "believed": believed,
     "counts": counts,
     "edits": edits,
+    "example": example,
     "c_numbers": c_numbers,
     "c_sentences": c_sentences,
     "c_offsets": c_offsets,

@@ -1,5 +1,6 @@
-// The table of open reads by value: one read from its opening to its last piece, and one that is withdrawn. docs/TABLE.md walks through it.
-// The first is the read of P2: address 10020h, 64 doublewords, all bytes enabled, RCB 128 and MPS 128. Its pieces are 96, 128 and 32 bytes.
+// The table of open reads by value: one read from its opening to its last piece, and one that is withdrawn
+// (docs/TABLE.md). It is the read of P2: address 10020h, 64 doublewords, all bytes enabled, RCB 128 and MPS 128, whose
+// pieces are 96, 128 and 32 bytes.
 use byte_enables::Access;
 use reads::answer::MakeAnswer;
 use reads::answer::OpenAnswer;
@@ -147,7 +148,8 @@ fn withdraw(t: Table) -> Table {
 
 // ---- the two reads
 
-// P4: a first piece of 32 bytes is 33 at RCB 128. P3: the pieces have Byte Count 256, 160, 32 and Lower Address 32, 0, 0.
+// P4: a first piece of 32 bytes is 33 at RCB 128.
+// P3: the pieces have Byte Count 256, 160, 32 and Lower Address 32, 0, 0.
 fn take_whole(t: Table, store: &mut [u8]) -> Table {
     let mut next = take(t, 8, 256, 32, 9, store);
     next = take(next, 24, 256, 32, 1, store);
