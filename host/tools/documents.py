@@ -301,7 +301,8 @@ def is_there(word, names):
 def missing_names(name):
     """What stands between backticks and names nothing."""
     names = crates()
-    words = [" ".join(word.split()) for word in re.findall(r"`([^`]+)`", text_of(name))]
+    text = re.sub(r"(?ms)^```.*?^```$", "", text_of(name))
+    words = [" ".join(word.split()) for word in re.findall(r"`([^`]+)`", text)]
     return ["%s: nothing is called %s" % (name, word) for word in dict.fromkeys(words) if not is_there(word, names)]
 
 
