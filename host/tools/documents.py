@@ -4,7 +4,8 @@ record.txt, the definitions to believe, the lines of each crate, the must-fail e
 
     documents.py --write    fill them
     documents.py --check    fail, with a line for each fault, where a part is not what it would be filled with, a document is larger than
-                            it may be, a line is too wide, or a name stands for nothing in the tree
+                            it may be, a line is too wide, a name stands for nothing in the tree, or README shows another answer than the
+                            second implementation gives
 """
 import glob
 import os
@@ -13,6 +14,12 @@ import sys
 import textwrap
 
 ROOT = os.path.dirname(os.path.dirname(os.path.dirname(os.path.abspath(__file__))))
+sys.dont_write_bytecode = True   # the imports below leave no compiled files behind
+sys.path.insert(0, os.path.join(ROOT, "host", "second"))
+
+import capture
+import reads
+
 HEADER = "host/include/tollpebble.h"
 # The most bytes of a document, the columns of a line, and the lines of an entry in docs/LANDINGS.md.
 SIZES = {"README.md": 8192, "docs/PROMISES.md": 66560}
@@ -306,6 +313,22 @@ def missing_names(name):
     return ["%s: nothing is called %s" % (name, word) for word in dict.fromkeys(words) if not is_there(word, names)]
 
 
+def shown(name, words):
+    """The rows of a document's tables that begin with one of the words as code, and what the second column has as code."""
+    rows = re.findall(r"(?m)^\| `((?:%s)\b.*?)` \| (.*) \|$" % words, text_of(name))
+    return [line for line, _ in rows], [answer for _, cell in rows for answer in re.findall("`(.*?)`", cell)]
+
+
+def wrong_examples(name):
+    """Where a capture or a script of calls that a document shows has other answers."""
+    lines, answers = shown(name, "mps|at")
+    decoded = capture.decode("".join(line + "\n" for line in lines).encode()).decode().splitlines()
+    calls, given = shown(name, "new|open|owed|take|bytes|withdraw")
+    console = reads.Console()
+    right = lines and calls and answers == decoded and given == [console.run((call + "\n").encode()) for call in calls]
+    return [] if right else ["%s: the second implementation gives other answers than it shows" % name]
+
+
 def faults():
     found = []
     for name in documents() + [HEADER]:
@@ -318,7 +341,7 @@ def faults():
         found += wide_lines(name)
         if name not in NAMES_UNCHECKED:
             found += missing_names(name)
-    return found + long_entries("docs/LANDINGS.md")
+    return found + long_entries("docs/LANDINGS.md") + wrong_examples("README.md")
 
 
 def write():
