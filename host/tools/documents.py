@@ -27,6 +27,8 @@ COLUMNS = 120
 ENTRY_LINES = 15
 # PROMISES has a check of its own (promises.py); LANDINGS is history, with the names of its day.
 NAMES_UNCHECKED = ["docs/PROMISES.md", "docs/LANDINGS.md"]
+# The crates of the kit that documents name functions of.
+KIT = ["bytes", "io", "libc", "os", "std"]
 
 
 def path(*parts):
@@ -287,21 +289,26 @@ def long_entries(name):
     return found
 
 
+def has_function(crate, name):
+    """Whether a crate has a module or a function of that name."""
+    sources = files_below(path("crates", crate, "src"), ".rt")
+    module = path("crates", crate, "src", name + ".rt") in sources
+    return module or any(re.search(r"\bfn %s\b" % name, text_of(n)) for n in sources)
+
+
 def is_there(word, names):
     """Whether a word that names a file, an edit, a module or a function finds it."""
-    file = re.match(r"(?:crates/)?(\w+)/((?:specs|proofs|src)/[\w/]+\.\w+)$", word)
-    if file and file[1] in names:
-        return os.path.exists(path("crates", file[1], file[2]))
+    file = re.match(r"(?:crates/)?(\w+/(?:specs|proofs|src)/[\w/]+\.\w+)$", word)
+    if file:
+        return os.path.exists(path("crates", file[1]))
+    if re.match(r"(docs|host|samples)/[\w/]+\.\w+$", word):
+        return os.path.exists(path(word))
     edit = re.match(r"(\w+)/([a-z0-9_]+)$", word)
     if edit and edit[1] in names:
         return os.path.exists(path("crates", edit[1], "must-fail", edit[2] + ".edit"))
-    function = re.match(r"(\w+)::(?:\w+::)*(\w+)$", word)
-    if function and function[1] in names:
-        sources = files_below(path("crates", function[1], "src"), ".rt")
-        module = os.path.exists(path("crates", function[1], "src", function[2] + ".rt"))
-        return module or any(re.search(r"\bfn %s\b" % function[2], text_of(n)) for n in sources)
-    if re.match(r"(docs|host|samples)/[\w/]+\.\w+$", word):
-        return os.path.exists(path(word))
+    function = re.match(r"([a-z]\w*)::(?:\w+::)*(\w+)$", word)
+    if function and function[1] not in KIT:
+        return has_function(function[1], function[2])
     return True
 
 
