@@ -16,7 +16,7 @@ firstKinds = 0b1111 ∷ 0b1110 ∷ 0b1100 ∷ 0b1000 ∷ []
 abbrev pub lastKinds : List ℕ
 lastKinds = 0b1111 ∷ 0b0111 ∷ 0b0011 ∷ 0b0001 ∷ []
 
--- "Length 1: last is 0000, first is anything. Length 2: neither is 0000; holes are permitted. Length 3 or more: first is 1111, 1110, 1100 or
+-- "Length 1: last is 0000, first is anything"; "Length 2: neither is 0000; holes are permitted"; "Length 3 or more: first is 1111, 1110, 1100 or
 -- 1000; last is 1111, 0111, 0011 or 0001."
 unfoldable pub enablesAllowed : Access → Bool
 enablesAllowed a =

@@ -30,7 +30,7 @@ linesKey = 108 ∷ 105 ∷ 110 ∷ 101 ∷ 115 ∷ 61 ∷ []
 abbrev pub refusedKey : List ℕ
 refusedKey = 32 ∷ 114 ∷ 101 ∷ 102 ∷ 117 ∷ 115 ∷ 101 ∷ 100 ∷ 61 ∷ []
 
--- "\n"
+-- `\n`
 abbrev pub newline : List ℕ
 newline = 10 ∷ []
 

@@ -37,7 +37,7 @@ FitsIn x = (r : Read) → x ≡ Open r → Fits (r .request)
 
 -- ---- what the scans look at
 
--- "closed records are not looked at"
+-- closed records are not looked at
 unfoldable pub validAt : Settings → ℕ → List ℕ → List ℕ → ℕ → Bool
 validAt s limit opened words tag = validState s (stateBelow limit opened words tag)
 

@@ -12,7 +12,7 @@ abbrev pub isOpen : State → Bool
 isOpen Free = false
 isOpen (Open r) = true
 
--- "closed records are not looked at"
+-- closed records are not looked at
 abbrev pub validState : Settings → State → Bool
 validState s Free = true
 validState s (Open r) = validRead s r

@@ -25,7 +25,7 @@ pub values-lettered : map hexDigit (0 ∷ 9 ∷ 10 ∷ 15 ∷ []) ≡ 48 ∷ 57 
 unfolding hexDigit
 values-lettered = refl
 
--- "1f20", "0100", "0", "1F20", "", sixteen f, seventeen 0
+-- `1f20`, `0100`, `0`, `1F20`, nothing, sixteen f, seventeen 0
 pub hex-read : map hexNumber
     ((49 ∷ 102 ∷ 50 ∷ 48 ∷ [])
     ∷ (48 ∷ 49 ∷ 48 ∷ 48 ∷ [])
@@ -46,7 +46,7 @@ pub hex-read : map hexNumber
 unfolding hexNumber empty allDigits hexValue valueFrom
 hex-read = refl
 
--- "1f20", "0100", "0", "00", "" without leading zeros
+-- `1f20`, `0100`, `0`, `00` and nothing, without leading zeros
 pub hex-plain-read : map hexPlain
     ((49 ∷ 102 ∷ 50 ∷ 48 ∷ [])
     ∷ (48 ∷ 49 ∷ 48 ∷ 48 ∷ [])
@@ -63,7 +63,7 @@ pub hex-plain-read : map hexPlain
 unfolding plainly plain hexNumber empty allDigits hexValue valueFrom
 hex-plain-read = refl
 
--- "0", "15", "4294967295", "4294967296", "007", "1a", "" up to 4294967295
+-- `0`, `15`, `4294967295`, `4294967296`, `007`, `1a` and nothing, up to 4294967295
 pub decimal-read : map (decimalNumber 4294967295)
     ((48 ∷ [])
     ∷ (49 ∷ 53 ∷ [])
@@ -84,7 +84,7 @@ pub decimal-read : map (decimalNumber 4294967295)
 unfolding plainly plain numberIn empty allDigits hexValue valueFrom
 decimal-read = refl
 
--- "0", "9", "10", "4294967295"
+-- `0`, `9`, `10`, `4294967295`
 pub decimal-printed : map decimalText (0 ∷ 9 ∷ 10 ∷ 4294967295 ∷ [])
     ≡ (48 ∷ [])
     ∷ (57 ∷ [])
@@ -94,17 +94,17 @@ pub decimal-printed : map decimalText (0 ∷ 9 ∷ 10 ∷ 4294967295 ∷ [])
 unfolding digits countTo hexDigit
 decimal-printed = refl
 
--- "0", "1f20"
+-- `0`, `1f20`
 pub hex-printed : map hexPlainText (0 ∷ 7968 ∷ []) ≡ (48 ∷ []) ∷ (49 ∷ 102 ∷ 50 ∷ 48 ∷ []) ∷ []
 unfolding digits countTo hexDigit
 hex-printed = refl
 
--- "0100"
+-- `0100`
 pub four-printed : digits 16 4 256 ≡ 48 ∷ 49 ∷ 48 ∷ 48 ∷ []
 unfolding digits hexDigit
 four-printed = refl
 
--- "", "4a00", "4a0", "4A00"
+-- nothing, `4a00`, `4a0`, `4A00`
 pub bytes-read : map bytesSpelled
     (([])
     ∷ (52 ∷ 97 ∷ 48 ∷ 48 ∷ [])
@@ -119,7 +119,7 @@ pub bytes-read : map bytesSpelled
 unfolding bytesSpelled pairs allDigits hexValue
 bytes-read = refl
 
--- "4a00"
+-- `4a00`
 pub bytes-printed : hexText (74 ∷ 0 ∷ []) ≡ 52 ∷ 97 ∷ 48 ∷ 48 ∷ []
 unfolding hexText hexDigit
 bytes-printed = refl
@@ -160,7 +160,7 @@ pub front-moved : map (λ (to : ℕ). movedToFront 1 to (1 ∷ 2 ∷ 3 ∷ 4 ∷
 unfolding movedToFront put
 front-moved = refl
 
--- "at=1 dir=tx tlp="
+-- `at=1 dir=tx tlp=`
 abbrev line : List ℕ
 line = 97 ∷ 116 ∷ 61 ∷ 49 ∷ 32 ∷ 100 ∷ 105 ∷ 114 ∷ 61 ∷ 116 ∷ 120 ∷ 32 ∷ 116 ∷ 108 ∷ 112 ∷ 61 ∷ []
 
@@ -169,12 +169,12 @@ pub words-end : map (wordEnd line) (0 ∷ 4 ∷ 5 ∷ 16 ∷ 99 ∷ []) ≡ 4 �
 unfolding wordEnd wordLength
 words-end = refl
 
--- " dir=" at the indices 4 and 0, and past the end
+-- ` dir=` at the indices 4 and 0, and past the end
 pub dir-found : map (λ (at : ℕ). valueAt line at (32 ∷ 100 ∷ 105 ∷ 114 ∷ 61 ∷ [])) (4 ∷ 0 ∷ 17 ∷ []) ≡ Found 9 11 ∷ Missing ∷ Missing ∷ []
 unfolding valueAt startsWith beginsWith wordEnd wordLength
 dir-found = refl
 
--- "tlp=" with nothing after it
+-- `tlp=` with nothing after it
 pub tlp-found : valueAt line 12 (116 ∷ 108 ∷ 112 ∷ 61 ∷ []) ≡ Found 16 16
 unfolding valueAt startsWith beginsWith wordEnd wordLength
 tlp-found = refl

@@ -1,4 +1,4 @@
--- "Decimals have no leading zeros."
+-- "Decimals have no leading zeros".
 use Prim.Native.Nat.{ℕ}
 use mathlib.Core.List.{List}
 use Rattle.text.specs.Number.{plainly, numberIn, plainText}

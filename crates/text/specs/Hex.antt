@@ -18,7 +18,7 @@ use Rattle.text.specs.declared.hex.Spelled.the-variants.{Bytes, Bad as N
 unfoldable pub hexNumber : List ℕ → Parsed
 hexNumber s = pick (not (empty s) && (leb (length s) 16 && allDigits 16 s)) (Number (value 16 s)) Bad
 
--- "lower-case hex without leading zeros (0 for zero)"
+-- lower-case hex without leading zeros (0 for zero)
 abbrev pub hexPlain : List ℕ → Parsed
 hexPlain s = plainly s (hexNumber s)
 
@@ -31,7 +31,7 @@ pairs [] = []
 pairs (a ∷ []) = []
 pairs (a ∷ b ∷ s) = (hexValue a * 16 + hexValue b) ∷ pairs s
 
--- "any even number of lower-case hex digits", as bytes
+-- any even number of lower-case hex digits, as bytes
 unfoldable pub bytesSpelled : List ℕ → Option (List ℕ)
 bytesSpelled s = pick (eqb (length s % 2) 0 && allDigits 16 s) (some (pairs s)) none
 

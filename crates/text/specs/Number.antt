@@ -19,7 +19,7 @@ valueFrom base v (b ∷ s) = valueFrom base (v * base + hexValue b) s
 abbrev pub value : ℕ → List ℕ → ℕ
 value base s = valueFrom base 0 s
 
--- "without leading zeros": a first digit 0 stands alone
+-- without leading zeros: a first digit 0 stands alone
 unfoldable pub plain : List ℕ → Bool
 plain [] = true
 plain (b ∷ []) = true

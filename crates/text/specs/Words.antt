@@ -1,4 +1,4 @@
--- "The words and keys stand as shown, in this order, one space between."
+-- Words and keys of a line, "one space between".
 use Prim.Native.Nat.{ℕ, suc, _+_, min}
 use mathlib.Core.Bool.{Bool, true, false, _&&_}
 use mathlib.Core.List.{List, [], _∷_}

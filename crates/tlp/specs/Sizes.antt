@@ -17,7 +17,7 @@ use Rattle.tlp.specs.declared.size.PacketSize.the-variants.{Bytes, Refus
 unfoldable pub orMost : ℕ → ℕ → ℕ
 orMost most n = pick (eqb n 0) most n
 
--- "Byte 2: Length[9:8] 1:0. Byte 3: Length[7:0]. Length 0 means 1024 DW."
+-- "Byte 2: .. Length[9:8] 1:0. Byte 3: Length[7:0]." "Length 0 means 1024 DW."
 unfoldable pub lengthAt : List ℕ → ℕ
 lengthAt s = orMost 1024 (low (byte s 2) 2 * 256 + byte s 3)
 

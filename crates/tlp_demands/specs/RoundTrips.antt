@@ -1,5 +1,5 @@
 -- Demand 2: "Writing then reading gives the same packet; reading then writing gives the same bytes with reserved bits cleared."
--- Document 01: "Reserved bits are ignored on reading." Proved in proofs/WriteRead.antt, proofs/ReadWrite.antt and proofs/ReservedIgnored.antt.
+-- Document 01: "Reserved bits are ignored on reading". Proved in proofs/WriteRead.antt, proofs/ReadWrite.antt and proofs/ReservedIgnored.antt.
 use Prim.Native.Nat.{ℕ, _≤_, _<_}
 use mathlib.Core.Path.{_≡_}
 use mathlib.Core.List.{List}

@@ -13,7 +13,7 @@ use Rattle.tlp.specs.declared.packet_type.PacketType.{PacketType}
 use Rattle.tlp.specs.declared.packet_type.PacketType.the-variants.{Cpl, CplD}
 use Rattle.tlp_read.specs.Fields.{packetAt}
 
--- the kind table's "CplD 4A" and "Cpl 0A", with their header of 3 DW there whole
+-- the kind table's CplD, 4A, and Cpl, 0A, with their header of 3 DW there whole
 unfoldable pub hasCompletion : List ℕ → Bool
 hasCompletion s = leb 12 (length s) && (eqb (byte s 0) 0x4A || eqb (byte s 0) 0x0A)
 

@@ -27,19 +27,19 @@ use Rattle.tlp.specs.declared.packet_type.PacketType.the-variants.{MRd32, MRd64
 abbrev pub trafficClassAt : List ℕ → ℕ
 trafficClassAt s = field (byte s 1) 4 3
 
--- "Byte 1: Attr[2] bit 2. Byte 2: Attr[1:0] 5:4"; Attr[2] is reserved in I/O and configuration, so ignored there
+-- "Byte 1: .. Attr[2] bit 2"; "Byte 2: .. Attr[1:0] 5:4"; Attr[2] is reserved in I/O and configuration, so ignored there
 unfoldable pub attributesAt : PacketType → List ℕ → ℕ
 attributesAt t s = pick (isIoOrConfig (familyOf t)) 0 (field (byte s 1) 2 1) * 4 + field (byte s 2) 4 2
 
--- "Byte 1: TH bit 0"
+-- "Byte 1: .. TH bit 0"
 abbrev pub hintAt : List ℕ → Bool
 hintAt s = eqb (low (byte s 1) 1) 1
 
--- "Byte 2: AT 3:2"
+-- "Byte 2: .. AT 3:2"
 abbrev pub addressTypeAt : List ℕ → ℕ
 addressTypeAt s = field (byte s 2) 2 2
 
--- "Byte 2: EP bit 6"
+-- "Byte 2: .. EP bit 6"
 abbrev pub poisonedAt : List ℕ → Bool
 poisonedAt s = bit (byte s 2) 6
 
@@ -57,7 +57,7 @@ requestAt s = record {
   last = field (byte s 7) 4 4;
 }
 
--- "Configuration: extended register byte 10 bits 3:0, register byte 11 bits 7:2"
+-- "Configuration: .. extended register byte 10 bits 3:0, register byte 11 bits 7:2"
 unfoldable pub configAt : List ℕ → ConfigRequest
 configAt s = record {
   request = requestAt s;
@@ -69,7 +69,7 @@ configAt s = record {
 unfoldable pub messageAt : List ℕ → MessageRequest
 messageAt s = record { requester = word 2 s 4; tag = byte s 6; code = byte s 7; body = word 8 s 8 }
 
--- "completer ID 4-5; byte 6 status 7:5, BCM bit 4, Byte Count[11:8] 3:0; byte 7 Byte Count[7:0], 0 meaning 4096; tag 10; Lower Address byte 11 bits 6:0"
+-- "completer ID 4-5; byte 6 status 7:5, BCM bit 4, Byte Count[11:8] 3:0; byte 7 Byte Count[7:0], 0 meaning 4096; .. tag 10; Lower Address byte 11 bits 6:0"
 unfoldable pub completionAt : List ℕ → CompletionHeader
 completionAt s = record {
   completer = word 2 s 4;

@@ -21,7 +21,7 @@ configOver extended register request = over 4 extended || (over 6 register || re
 abbrev pub completionOver : ℕ → ℕ → ℕ → Bool
 completionOver status count lower = over 3 status || (outside 4096 count || over 7 lower)
 
--- "length in doublewords, 1 to 1024: all but Msg and Cpl"
+-- length in doublewords, 1 to 1024: all but Msg and Cpl
 abbrev pub lengthKept : Bool → ℕ → Bool
 lengthKept has n = pick has (not (outside 1024 n)) (eqb n 0)
 
@@ -38,7 +38,7 @@ memoryFits s =
     allZero (byte s 7) (word 8 s 16) (word 4 s 32) (word 8 s 40)
     && (not (requestOver (word 4 s 28) (byte s 38) (byte s 39)) && not (notAddress 64 (byte s 5) (word 8 s 8)))
 
--- "Attr[2] is 0 for IORd to CfgWr1"
+-- Attr[2] is 0 for IORd to CfgWr1
 unfoldable pub ioFits : List ℕ → Bool
 ioFits s =
     allZero (byte s 7) (word 8 s 16) (word 4 s 32) (word 8 s 40)

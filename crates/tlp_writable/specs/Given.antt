@@ -30,7 +30,7 @@ outside most n = not (leb 1 n && leb n most)
 abbrev pub lengthBad : ℕ → Bool
 lengthBad n = outside 1024 n
 
--- what every packet has: "with TD clear [the digest] is 0, else the writer gives 6"
+-- what every packet has; of the digest, "with TD clear it is 0, else the writer gives 6"
 unfoldable pub commonBad : Packet → Bool
 commonBad p =
     over 3 (p .«traffic_class»)
@@ -61,7 +61,7 @@ completionBad c =
     || (over 8 (c .tag)
     || over 7 (c .«lower_address»))))
 
--- the kind's own fields: "Msg and Cpl have [no length]"
+-- the kind's own fields; of lengths, "Msg and Cpl have none"
 unfoldable pub ownBad : Kind → Bool
 ownBad (MemoryRead q) = requestBad q
 ownBad (MemoryWrite q) = requestBad q
