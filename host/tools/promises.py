@@ -1,66 +1,291 @@
 #!/usr/bin/env python3
-"""Fails, with one line for each, where docs/PROMISES.md names a file, a definition, a function, an edit or a group of vectors that is not there,
-or leaves out a public function or an edit that is."""
+"""Holds docs/PROMISES.md to the sources, with one line for each fault.
+
+Names: a marked name is in a file that its section names, or is a function or type of a crate that it names or takes a file from. A
+section that names no files under "In" uses those above it too. What follows vectors, script and captures is a function that makes
+them; what follows edit is an edit, with its crate (crate/edit) where two crates have one of that name. No edit is left out, and no
+public function; the definition that stands behind a function in the last section is in its contract.
+
+Quotations: a text in double quotation marks in a comment of crates/*/specs stands in the papers, as PROMISES quotes them (`> ..`).
+White space, backticks and the case of the first letter don't count; an omission is ` .. `. A quotation with omissions has its parts in
+order within one quoted sentence, table row or title, or within two that follow each other."""
+import functools
 import glob
 import os
 import re
 import sys
 
 ROOT = os.path.dirname(os.path.dirname(os.path.dirname(os.path.abspath(__file__))))
+DOCUMENT = "docs/PROMISES.md"
+INDEX = "Every public function"
+MAKERS = {
+    "vectors": ["make_vectors.py"],
+    "script": ["make_calls.py", "call_faults.py", "call_traffic.py"],
+    "captures": ["make_captures.py"],
+}
+FUNCTION = r'(?m)^\s*pub (?:extern "C" )?fn (\w+)'
+DEFINED = r"(?m)^\s*(?:(?:abbrev |unfoldable )?pub (?:record |data |ruleset )?|(?=[\w-]+ :))([\w-]+)"
+TYPED = r"(?m)^\s*(?:pub (?:struct|enum|const) (\w+)|([A-Z]\w*)(?:,|\(.*\),| \{.*)$)"
 
 
-def read(*parts):
-    with open(os.path.join(ROOT, *parts), encoding="utf-8") as f:
+@functools.lru_cache(None)
+def read(name):
+    with open(os.path.join(ROOT, name), encoding="utf-8") as f:
         return f.read()
 
 
+def found(pattern):
+    return sorted(os.path.relpath(n, ROOT) for n in glob.glob(os.path.join(ROOT, pattern), recursive=True))
+
+
 def crates():
-    found = []
-    for line in read("crates.txt").splitlines():
-        line = line.split("#")[0].strip()
-        if line:
-            found.append(line.split(":")[0])
-    return found
+    lines = (line.split("#")[0].strip() for line in read("crates.txt").splitlines())
+    return [line.split(":")[0] for line in lines if line]
 
 
-def sources(crate):
-    return "\n".join(open(n, encoding="utf-8").read() for n in sorted(glob.glob(os.path.join(ROOT, "crates", crate, "src", "*.rt"))))
+# ---- names
+
+@functools.lru_cache(None)
+def defined(name):
+    return set(re.findall(DEFINED, read(name)))
+
+
+@functools.lru_cache(None)
+def declared(crate):
+    """The functions, types and cases of a crate."""
+    names = set()
+    for name in found("crates/%s/src/**/*.rt" % crate):
+        names.update(re.findall(r"\bfn (\w+)", read(name)))
+        names.update(n for pair in re.findall(TYPED, read(name)) for n in pair)
+    return names
+
+
+@functools.lru_cache(None)
+def made(kind):
+    return set(re.findall(r"(?m)^def (\w+)", "\n".join(read("host/second/" + n) for n in MAKERS[kind])))
+
+
+@functools.lru_cache(None)
+def edits():
+    """The crates that have an edit of a name."""
+    crates_of = {}
+    for name in found("crates/*/must-fail/*.edit"):
+        crates_of.setdefault(os.path.basename(name)[:-5], []).append(name.split("/")[1])
+    return crates_of
+
+
+def marked(text):
+    return re.findall(r"`([^`]+)`", text)
+
+
+def paths(word):
+    """The files that a marked path names: crate/specs/X.antt, or several as crate/specs/{X,Y}.antt."""
+    match = re.match(r"(\w+/(?:specs|proofs|src)/(?:\w+/)*)(?:(\w+)|\{([\w,]+)\})\.(antt|rt)$", word)
+    if not match:
+        return []
+    return ["crates/%s%s.%s" % (match.group(1), x, match.group(4)) for x in (match.group(2) or match.group(3)).split(",")]
+
+
+def exists(name):
+    return os.path.exists(os.path.join(ROOT, name))
+
+
+def sections(text):
+    """Title and text of each section, quotations left out, with the text that names its files: a part (###) has its section's too."""
+    for section in re.split(r"(?m)^##? ", re.sub(r"(?m)^>.*$", "", text))[1:]:
+        parts = re.split(r"(?m)^### ", section)
+        for part in parts:
+            yield part.split("\n")[0].strip('"'), part, parts[0] + part
+
+
+def names_of(text, names):
+    scope = set()
+    for word in marked(text):
+        for path in filter(exists, paths(word)):
+            scope |= declared(path.split("/")[1]) | (defined(path) if path.endswith(".antt") else set())
+        if word in names:
+            scope |= declared(word)
+    return scope
+
+
+def by_kind(text):
+    """Each marked word with the kind that the word before its list says, if one does."""
+    runs = r"\b(edit|vectors|script|captures)s?((?:,? (?:and )?`[^`]+`(?: \([^)]*\))?)+)"
+    for match in re.finditer(runs, text, re.I):
+        for word in marked(re.sub(r"\([^)]*\)", "", match.group(2))):
+            yield match.group(1).lower(), word
+    for word in marked(re.sub(runs, "", text, flags=re.I)):
+        yield None, word
+
+
+def edit_fault(word):
+    crate, _, name = word.rpartition("/")
+    having = edits().get(name, [])
+    if crate and crate not in having or not having:
+        return "no such edit"
+    return None if crate or len(having) == 1 else "an edit of several crates (%s)" % ", ".join(having)
+
+
+def word_fault(kind, word, scope, names):
+    function = re.match(r"(\w+)::(\w+)$", word)
+    missing = [path for path in paths(word) if not exists(path)]
+    if missing:
+        return "no file %s" % missing[0]
+    if kind == "edit":
+        return edit_fault(word)
+    if kind:
+        return None if word in made(kind) else "nothing that makes %s" % kind
+    if word.startswith(("host/", "crates/")):
+        return None if found(word) else "no file"
+    if function:
+        return None if function.group(2) in declared(function.group(1)) else "no function"
+    if not re.match(r"[A-Za-z][\w-]*$", word) or word in names:
+        return None
+    return None if word in scope else "in no file or crate that its section names"
+
+
+def name_faults(text, names):
+    above = set()
+    for title, part, files in sections(text):
+        here = names_of(files, names)
+        above |= here
+        scope = here if re.search(r"(?m)^In `", files) else above
+        if title == INDEX:
+            scope = set().union(*(declared(c) for c in names), *(defined(n) for n in found("crates/*/specs/**/*.antt")))
+        for kind, word in by_kind(re.sub(r"\s*\n\s*", " ", part)):
+            fault = word_fault(kind, word, scope, names)
+            if fault:
+                yield "%s: section %s: `%s`: %s" % (DOCUMENT, title, word, fault)
+
+
+def index(text):
+    """Of each crate in the last section, its functions, each with the definitions of the bracket behind it or behind its list."""
+    lines = {}
+    for item in [i for title, part, _ in sections(text) if title == INDEX for i in re.split(r"(?m)^- ", part)[1:]]:
+        crate, _, rest = item.partition(":")
+        functions = lines.setdefault(crate.strip("`"), {})
+        waiting = []
+        for name, bracket in re.findall(r"`(\w+)`(?:\s+(\([^)]*\)))?", rest):
+            waiting.append(name)
+            if bracket:
+                functions.update((n, (bracket, n == name)) for n in waiting)
+                waiting = []
+        functions.update((n, ("", False)) for n in waiting)
+    return lines
+
+
+def contract(crate, function):
+    found_in = "\n".join(read(n) for n in found("crates/%s/src/**/*.rt" % crate))
+    match = re.search(r'(?s)\bpub (?:extern "C" )?fn %s\b(.*?)\n\s*\{\n' % function, found_in)
+    return set(re.findall(r"[\w-]+", match.group(1))) if match else set()
+
+
+def stated(crate, function, bracket, own):
+    words = contract(crate, function)
+    parts = function.split("_")
+    if not own and parts[0] + "".join(p.capitalize() for p in parts[1:]) in words:
+        return True
+    return bool(bracket) and all(name in words for name in marked(bracket))
+
+
+def omissions(text, names):
+    lines = index(text)
+    named = {word for _, part, _ in sections(text) for kind, word in by_kind(re.sub(r"\s*\n\s*", " ", part)) if kind == "edit"}
+    for name, crates_of in sorted(edits().items()):
+        for crate in crates_of:
+            if name not in named and crate + "/" + name not in named:
+                yield "%s: edit left out: %s/%s" % (DOCUMENT, crate, name)
+    for crate in names:
+        library = exists("crates/%s/src/lib.rt" % crate)
+        public = [f for n in found("crates/%s/src/**/*.rt" % crate) if library for f in re.findall(FUNCTION, read(n))]
+        for function in public:
+            if function not in lines.get(crate, {}):
+                yield "%s: public function left out of the last section: %s::%s" % (DOCUMENT, crate, function)
+            elif not stated(crate, function, *lines[crate][function]):
+                yield "%s: the contract of %s::%s does not have the definition beside it" % (DOCUMENT, crate, function)
+        for function in lines.get(crate, {}):
+            if function not in public:
+                yield "%s: no public function: %s::%s" % (DOCUMENT, crate, function)
+
+
+# ---- quotations
+
+def normal(text):
+    return " ".join(text.replace("`", "").split())
+
+
+def quoted_papers(text):
+    """What PROMISES quotes, in its order: titles, sentences, and each row of a table or of a case alone."""
+    papers, block = [], []
+    for line in text.split("\n") + [""]:
+        title = re.match(r'#+ "(.*)"$', line)
+        row = re.match(r"> (\|.*|\w+=.*)$", line)
+        if block and (row or not line.startswith(">")):
+            papers.append(" ".join(block))
+            block = []
+        if title or row:
+            papers.append((title or row).group(1).strip("|"))
+        elif line.startswith(">"):
+            block.append(line[1:])
+    return [normal(p) for p in papers]
+
+
+def comments(text):
+    """Each comment of a file, lines joined, as a list of (line, text)."""
+    run = []
+    for number, line in enumerate(text.split("\n"), 1):
+        alone = re.match(r"\s*--+ ?(.*)$", line)
+        beside = re.match(r'(?:[^"]|"[^"]*")*?\S.*? -- (.*)$', line)
+        if run and not alone:
+            yield run
+            run = []
+        if alone:
+            run.append((number, alone.group(1)))
+        elif beside:
+            yield [(number, beside.group(1))]
+    if run:
+        yield run
+
+
+def quotations(text):
+    """Line and text of each quotation; the text is None where the quotation has no end."""
+    for run in comments(text):
+        joined = " ".join(part for _, part in run)
+        lines = [number for number, part in run for _ in range(len(part) + 1)]
+        marks = [i for i, letter in enumerate(joined) if letter == '"']
+        for start, end in zip(marks[::2], marks[1::2] + [None]):
+            yield lines[start], joined[start + 1:end] if end else None
+
+
+def stands_in(parts, text):
+    at = 0
+    for i, part in enumerate(parts):
+        first = re.escape(part[0])
+        pattern = ("(?i:%s)" % first if i == 0 else first) + re.escape(part[1:])
+        match = re.compile((r"(?<!\w)" if part[0].isalnum() else "") + pattern + (r"(?!\w)" if part[-1].isalnum() else "")).search(text, at)
+        if not match:
+            return False
+        at = match.end()
+    return True
+
+
+def quotation_faults(text):
+    papers = quoted_papers(text)
+    whole, neighbours = [" ".join(papers)], [" ".join(pair) for pair in zip(papers, papers[1:])]
+    for name in found("crates/*/specs/**/*.antt"):
+        for line, quotation in quotations(read(name)):
+            parts = [p.strip() for p in re.split(r"(?:^| )\.\.(?= |$|[;,:.])", normal(quotation or "")) if p.strip()]
+            if not any(parts and stands_in(parts, text) for text in (neighbours if parts[1:] else whole)):
+                yield '%s:%d: in no paper: "%s"' % (name, line, quotation) if quotation is not None \
+                    else "%s:%d: a quotation without an end" % (name, line)
 
 
 def main():
-    text = read("docs", "PROMISES.md")
-    marked = re.findall(r"`([^`]+)`", text)
-    names = crates()
-    faults = []
-    for word in marked:
-        path = re.match(r"(\w+)/((?:specs|proofs)/\w+\.antt)(?:: ([\w-]+))?$", word)
-        edit = re.match(r"(\w+)/([a-z0-9_]+)$", word)
-        function = re.match(r"(\w+)::(?:\w+::)*(\w+)$", word)
-        if path and path.group(1) in names:
-            name = os.path.join(ROOT, "crates", path.group(1), path.group(2))
-            if not os.path.exists(name):
-                faults.append("no file: " + word)
-            elif path.group(3) and not re.search(r"(?m)^\s*(?:abbrev |unfoldable )?pub (?:record |data |ruleset )?%s\b" % re.escape(path.group(3)), open(name, encoding="utf-8").read()):
-                faults.append("no definition: " + word)
-        elif edit and edit.group(1) in names:
-            if not os.path.exists(os.path.join(ROOT, "crates", edit.group(1), "must-fail", edit.group(2) + ".edit")):
-                faults.append("no edit: " + word)
-        elif function and function.group(1) in names:
-            if not re.search(r"\bfn %s\b" % function.group(2), sources(function.group(1))):
-                faults.append("no function: " + word)
-        elif re.match(r"(read|write|random)_\w+$", word) and word not in read("host", "second", "make_vectors.py"):
-            faults.append("no group of vectors: " + word)
-    for crate in names:
-        for name in sorted(glob.glob(os.path.join(ROOT, "crates", crate, "must-fail", "*.edit"))):
-            label = "%s/%s" % (crate, os.path.basename(name)[:-5])
-            if "`%s`" % label not in text:
-                faults.append("edit left out: " + label)
-        if os.path.exists(os.path.join(ROOT, "crates", crate, "src", "lib.rt")):
-            for function in re.findall(r"(?m)^\s*pub (?:extern \"C\" )?fn (\w+)", sources(crate)):
-                if "::%s`" % function not in text:
-                    faults.append("public function left out: %s::%s" % (crate, function))
+    text, names = read(DOCUMENT), crates()
+    faults = list(name_faults(text, names)) + list(omissions(text, names)) + list(quotation_faults(text))
     if faults:
-        sys.exit("docs/PROMISES.md\n" + "\n".join(faults))
+        sys.exit("\n".join(faults))
 
 
-main()
+if __name__ == "__main__":
+    main()
