@@ -110,6 +110,7 @@ def names_of(text, names):
 
 def by_kind(text):
     """Each marked word with the kind that the word before its list says, if one does."""
+    text = " ".join(text.split())
     runs = r"\b(edit|vectors|script|captures)s?((?:,? (?:and )?`[^`]+`(?: \([^)]*\))?)+)"
     for match in re.finditer(runs, text, re.I):
         for word in marked(re.sub(r"\([^)]*\)", "", match.group(2))):
@@ -126,6 +127,12 @@ def edit_fault(word):
     return None if crate or len(having) == 1 else "an edit of several crates (%s)" % ", ".join(having)
 
 
+def elsewhere(word, names):
+    """Where a name stands that its section does not name a file or crate of."""
+    files = [n for n in found("crates/*/specs/**/*.antt") + found("crates/*/proofs/**/*.antt") if word in defined(n)]
+    return "".join("; it is in " + n for n in files[:3] + [c for c in names if word in declared(c)][:3])
+
+
 def word_fault(kind, word, scope, names):
     function = re.match(r"(\w+)::(\w+)$", word)
     missing = [path for path in paths(word) if not exists(path)]
@@ -134,14 +141,14 @@ def word_fault(kind, word, scope, names):
     if kind == "edit":
         return edit_fault(word)
     if kind:
-        return None if word in made(kind) else "nothing that makes %s" % kind
+        return None if word in made(kind) else "no function that makes %s" % kind
     if word.startswith(("host/", "crates/")):
         return None if found(word) else "no file"
     if function:
         return None if function.group(2) in declared(function.group(1)) else "no function"
     if not re.match(r"[A-Za-z][\w-]*$", word) or word in names:
         return None
-    return None if word in scope else "in no file or crate that its section names"
+    return None if word in scope else "in no file or crate that its section names" + elsewhere(word, names)
 
 
 def name_faults(text, names):
@@ -152,7 +159,7 @@ def name_faults(text, names):
         scope = here if re.search(r"(?m)^In `", files) else above
         if title == INDEX:
             scope = set().union(*(declared(c) for c in names), *(defined(n) for n in found("crates/*/specs/**/*.antt")))
-        for kind, word in by_kind(re.sub(r"\s*\n\s*", " ", part)):
+        for kind, word in by_kind(part):
             fault = word_fault(kind, word, scope, names)
             if fault:
                 yield "%s: section %s: `%s`: %s" % (DOCUMENT, title, word, fault)
@@ -177,7 +184,7 @@ def index(text):
 def contract(crate, function):
     found_in = "\n".join(read(n) for n in found("crates/%s/src/**/*.rt" % crate))
     match = re.search(r'(?s)\bpub (?:extern "C" )?fn %s\b(.*?)\n\s*\{\n' % function, found_in)
-    return set(re.findall(r"[\w-]+", match.group(1))) if match else set()
+    return set(re.findall(r"[\w-]+", match.group(1).partition("ensures")[2])) if match else set()
 
 
 def stated(crate, function, bracket, own):
@@ -190,7 +197,7 @@ def stated(crate, function, bracket, own):
 
 def omissions(text, names):
     lines = index(text)
-    named = {word for _, part, _ in sections(text) for kind, word in by_kind(re.sub(r"\s*\n\s*", " ", part)) if kind == "edit"}
+    named = {word for _, part, _ in sections(text) for kind, word in by_kind(part) if kind == "edit"}
     for name, crates_of in sorted(edits().items()):
         for crate in crates_of:
             if name not in named and crate + "/" + name not in named:
@@ -282,9 +289,9 @@ def quotation_faults(text):
 
 def main():
     text, names = read(DOCUMENT), crates()
-    faults = list(name_faults(text, names)) + list(omissions(text, names)) + list(quotation_faults(text))
+    faults = [*name_faults(text, names), *omissions(text, names), *quotation_faults(text)]
     if faults:
-        sys.exit("\n".join(faults))
+        sys.exit("\n".join(dict.fromkeys(faults)))
 
 
 if __name__ == "__main__":
