@@ -4,7 +4,8 @@
 Names: a marked name is in a file that its section names, or is a function or type of a crate that it names or takes a file from. A
 section that names no files under "In" uses those above it too. What follows vectors, script and captures is a function that makes
 them; what follows edit is an edit, with its crate (crate/edit) where two crates have one of that name. No edit is left out, and no
-public function; the definition that stands behind a function in the last section is in its contract.
+public function; the contract of each has the definition that the last section puts beside it, says what it leaves in what it is lent
+for change, and has no requires.
 
 Quotations: a text in double quotation marks in a comment of crates/*/specs stands in the papers, as PROMISES quotes them (`> ..`).
 White space, backticks and the case of the first letter don't count; an omission is ` .. `. A quotation with omissions has its parts in
@@ -182,17 +183,24 @@ def index(text):
 
 
 def contract(crate, function):
-    found_in = "\n".join(read(n) for n in found("crates/%s/src/**/*.rt" % crate))
-    match = re.search(r'(?s)\bpub (?:extern "C" )?fn %s\b(.*?)\n\s*\{\n' % function, found_in)
-    return set(re.findall(r"[\w-]+", match.group(1).partition("ensures")[2])) if match else set()
+    """What stands between a public function's name and its body."""
+    source = "\n".join(read(n) for n in found("crates/%s/src/**/*.rt" % crate))
+    return re.search(r'(?s)\bpub (?:extern "C" )?fn %s\b(.*?)\n\s*\{\n' % function, source).group(1)
 
 
-def stated(crate, function, bracket, own):
-    words = contract(crate, function)
+def contract_faults(crate, function, bracket, own):
+    """No requires; the definition of the function's name, if the bracket is not its own, or all that the bracket has; what it leaves."""
+    text = contract(crate, function)
+    words = set(re.findall(r"[\w-]+", text.partition("ensures")[2]))
     parts = function.split("_")
-    if not own and parts[0] + "".join(p.capitalize() for p in parts[1:]) in words:
-        return True
-    return bool(bracket) and all(name in words for name in marked(bracket))
+    same = not own and parts[0] + "".join(p.capitalize() for p in parts[1:]) in words
+    if not same and not (bracket and all(name in words for name in marked(bracket))):
+        yield "does not have the definition beside it"
+    if re.search(r"\brequires\b", text):
+        yield "has a requires"
+    for lent in re.findall(r"(\w+): &mut ", text):
+        if not re.search(r"\(«?%s»? \.exit\)" % lent, text):
+            yield "does not say what it leaves in " + lent
 
 
 def omissions(text, names):
@@ -208,8 +216,9 @@ def omissions(text, names):
         for function in public:
             if function not in lines.get(crate, {}):
                 yield "%s: public function left out of the last section: %s::%s" % (DOCUMENT, crate, function)
-            elif not stated(crate, function, *lines[crate][function]):
-                yield "%s: the contract of %s::%s does not have the definition beside it" % (DOCUMENT, crate, function)
+                continue
+            for fault in contract_faults(crate, function, *lines[crate][function]):
+                yield "%s: the contract of %s::%s %s" % (DOCUMENT, crate, function, fault)
         for function in lines.get(crate, {}):
             if function not in public:
                 yield "%s: no public function: %s::%s" % (DOCUMENT, crate, function)
@@ -234,7 +243,7 @@ def quoted_papers(text):
             papers.append((title or row).group(1).strip("|"))
         elif line.startswith(">"):
             block.append(line[1:])
-    return [normal(p) for p in papers]
+    return [p for p in map(normal, papers) if p.strip("-| ")]
 
 
 def comments(text):
@@ -242,7 +251,7 @@ def comments(text):
     run = []
     for number, line in enumerate(text.split("\n"), 1):
         alone = re.match(r"\s*--+ ?(.*)$", line)
-        beside = re.match(r'(?:[^"]|"[^"]*")*?\S.*? -- (.*)$', line)
+        beside = re.match(r'(?:[^"]|"[^"]*")*? --+ (.*)$', line)
         if run and not alone:
             yield run
             run = []
@@ -267,9 +276,9 @@ def quotations(text):
 def stands_in(parts, text):
     at = 0
     for i, part in enumerate(parts):
-        first = re.escape(part[0])
-        pattern = ("(?i:%s)" % first if i == 0 else first) + re.escape(part[1:])
-        match = re.compile((r"(?<!\w)" if part[0].isalnum() else "") + pattern + (r"(?!\w)" if part[-1].isalnum() else "")).search(text, at)
+        first = ("(?i:%s)" if i == 0 else "%s") % re.escape(part[0])
+        before, after = r"(?<!\w)" if part[0].isalnum() else "", r"(?!\w)" if part[-1].isalnum() else ""
+        match = re.compile(before + first + re.escape(part[1:]) + after).search(text, at)
         if not match:
             return False
         at = match.end()
@@ -282,7 +291,7 @@ def quotation_faults(text):
     for name in found("crates/*/specs/**/*.antt"):
         for line, quotation in quotations(read(name)):
             parts = [p.strip() for p in re.split(r"(?:^| )\.\.(?= |$|[;,:.])", normal(quotation or "")) if p.strip()]
-            if not any(parts and stands_in(parts, text) for text in (neighbours if parts[1:] else whole)):
+            if not any(parts and stands_in(parts, paper) for paper in (neighbours if parts[1:] else whole)):
                 yield '%s:%d: in no paper: "%s"' % (name, line, quotation) if quotation is not None \
                     else "%s:%d: a quotation without an end" % (name, line)
 
