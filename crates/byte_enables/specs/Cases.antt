@@ -1,4 +1,5 @@
--- Document 01's own cases of byte enables, P5 to P7, P10 and P11, a length of 2 with holes, and bit 0 as the lowest byte, computed.
+-- Document 01's own cases of byte enables, computed: a first of 0000, holes, the order of the bits, and the total beside
+-- the set bits. (P5 to P11 are in reads_demands.) No promise cites this file.
 use Prim.Native.Nat.{ℕ}
 use mathlib.Core.Path.{_≡_, refl}
 use mathlib.Core.Bool.{Bool, true, false, _&&_, not}
@@ -26,16 +27,27 @@ pub record Row : Type 0 where
 abbrev pub with : ℕ → ℕ → ℕ → Access
 with length first last = record { address = 0; length = length; first = first; last = last }
 
--- in order: P5, P6, P7, P10, P11, holes, the order of the bits
 abbrev pub cases : List Row
 cases =
-    record { access = with 1 0b1010 0b0000; claims = allowedIs true ∷ totalIs 3 ∷ offIs 1 ∷ [] }
-    ∷ record { access = with 1 0b0000 0b0000; claims = allowedIs true ∷ totalIs 1 ∷ offIs 0 ∷ trailIs 3 ∷ bytesAre 0 ∷ [] }
-    ∷ record { access = with 2 0b1100 0b0011; claims = allowedIs true ∷ totalIs 4 ∷ [] }
-    ∷ record { access = with 3 0b1010 0b1111; claims = allowedIs false ∷ [] }
-    ∷ record { access = with 2 0b1111 0b0000; claims = allowedIs false ∷ [] }
+    -- "With first 0000 and Length 1, off is 0 and trail is 3."
+    record { access = with 1 0b0000 0b0000; claims = allowedIs true ∷ offIs 0 ∷ trailIs 3 ∷ bytesAre 0 ∷ [] }
+    -- "Length 2: .. holes are permitted"
     ∷ record { access = with 2 0b0101 0b1010; claims = allowedIs true ∷ [] }
-    ∷ record { access = with 3 0b1000 0b0001; claims = byteIs 0 false ∷ byteIs 3 true ∷ byteIs 4 true ∷ byteIs 8 true ∷ byteIs 9 false ∷ byteIs 12 false ∷ bytesAre 6 ∷ [] }
+    -- "Bit 0 is the lowest byte. DWs between first and last have every byte enabled."
+    ∷ record {
+      access = with 3 0b1000 0b0001;
+      claims =
+          byteIs 0 false
+          ∷ byteIs 3 true
+          ∷ byteIs 4 true
+          ∷ byteIs 8 true
+          ∷ byteIs 9 false
+          ∷ byteIs 12 false
+          ∷ bytesAre 6
+          ∷ [];
+    }
+    -- "counting set bits for the total (P5 has 2 set, total 3)"
+    ∷ record { access = with 1 0b1010 0b0000; claims = bytesAre 2 ∷ totalIs 3 ∷ [] }
     ∷ []
 
 abbrev pub holds : Access → Claim → Bool

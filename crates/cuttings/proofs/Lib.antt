@@ -1,2 +1,2 @@
 pub mod CuttingsProof
-pub mod PieceByPiece
+pub mod ByTheRow

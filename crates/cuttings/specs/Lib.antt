@@ -1,3 +1,3 @@
 pub mod Rows
 pub mod Lawful
-pub mod Edges
+pub mod ByRow

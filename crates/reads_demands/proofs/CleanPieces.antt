@@ -5,16 +5,16 @@ use mathlib.Core.Bool.{true, false, and-eq-true-iff}
 use mathlib.Core.List.{List}
 use borrow.Author.Tests.{eqb-true, eq-eqb, leb-true, le-leb, not-true}
 use Rattle.tlp.specs.Rows.{first}
-use Rattle.tlp_read.specs.Read.{readRows}
+use Rattle.tlp_read.specs.Read.{readRows, packetIn}
 use Rattle.reads_rules.specs.declared.request.ReadRequest.{ReadRequest}
 use Rattle.reads_rules.specs.declared.read.Read.{Read}
 use Rattle.reads_rules.specs.declared.piece.Piece.{Piece}
 use Rattle.reads_rules.specs.declared.origin.Origin.{Origin}
 use Rattle.reads_rules.specs.Windows.{storeLimit, windowEnd, holdsWindow}
 use Rattle.reads_rules.specs.Validity.{owedOf}
-use Rattle.reads_rules.specs.Pieces.{isCompletion}
+use Rattle.reads_rules.specs.Pieces.{isCompletion, pieceIn}
 use Rattle.reads_rules.specs.Continuations.{cutAllowed, succeeds, differs, legal, clean}
-use Rattle.cuttings.specs.Lawful.{packetIn, pieceIn, readsAsCompletion, cleanPacket}
+use Rattle.cuttings.specs.Lawful.{readsAsCompletion, cleanPacket}
 use Rattle.reads_demands.proofs.PieceSizes.{Sized, sized}
 
 -- what clean says, field by field

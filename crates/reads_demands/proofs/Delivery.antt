@@ -19,6 +19,7 @@ use Rattle.reads_rules.specs.declared.origin.Origin.{Origin}
 use Rattle.reads_rules.specs.Windows.{storeLimit, windowEnd, sharesByte}
 use Rattle.reads_rules.specs.Validity.{owedOf}
 use Rattle.reads_rules.specs.Continuations.{legal}
+use Rattle.reads_rules.specs.Pieces.{pieceIn}
 use Rattle.reads_store.specs.Stores.{stored}
 use Rattle.reads_slots.specs.declared.State.{State}
 use Rattle.reads_slots.specs.declared.State.the-variants.{Free, Open}
@@ -33,9 +34,9 @@ use Rattle.reads.specs.Tables.{stateAt}
 use Rattle.reads.specs.Answers.{openNumber, takeNumber, withdrawNumber}
 use Rattle.reads.specs.OpenCall.{headerPacket, openRows, openAnswer, openCall}
 use Rattle.reads.specs.TakeCall.{takeCall, takeStore}
+use Rattle.tlp_read.specs.Read.{payloadIn}
 use Rattle.reads.specs.OtherCalls.{withdrawCall}
-use Rattle.cuttings.specs.Lawful.{pieceIn, payloadIn, takenTo, cleanPacket, lawfulFrom, lawfulCutting, payloadsJoined}
-use Rattle.cuttings.proofs.PieceByPiece.{piece-by-piece}
+use Rattle.cuttings.specs.Lawful.{takenTo, cleanPacket, lawfulFrom, lawfulCutting, payloadsJoined}
 use Rattle.reads_demands.specs.History.{Call, opening, taking, withdrawing, asking, takeEvent, eventTag, eventChange, change, doublewords, keeps, opens, openChange, takeChange, withdrawChange}
 use Rattle.reads_demands.specs.Demand2.{Continues}
 use Rattle.reads_demands.specs.Demand3.{next, answered, lent, left, run, Item, other, piece, calls, pieces, Harmless, Undisturbed, SameWindow, orLast, SameStore, AllMore, Delivered, Outside}
@@ -297,6 +298,6 @@ unfolding doublewords
 delivery {o} {t} g q tag store₀ out mid b store e l u w =
     let n = opened-rows t q tag (length store₀) (length out) e in
     let r = place-parts q (length store₀) (n .1 .1 .1 .1 .1 .1 .1 .0) in
-    let i = deliver o q tag store₀ b store (r .1) (r .2) mid [] (next t (opening q tag store₀ out)) store₀ (mid-opened g q tag store₀ out e)
-    (sym (piece-by-piece o tag q (pieces mid ++ (b ∷ []))) ∙ l) u w in
+    let t₁ = next t (opening q tag store₀ out) in
+    let i = deliver o q tag store₀ b store (r .1) (r .2) mid [] t₁ store₀ (mid-opened g q tag store₀ out e) l u w in
     record { taken = i .taken; done = i .done; free = i .free; bytes = i .bytes }

@@ -14,6 +14,7 @@ use Rattle.reads_rules.specs.declared.request.ReadRequest.{ReadRequest}
 use Rattle.reads_rules.specs.declared.read.Read.{Read}
 use Rattle.reads_rules.specs.declared.origin.Origin.{Origin}
 use Rattle.reads_rules.specs.Validity.{owedOf}
+use Rattle.reads_rules.specs.Pieces.{pieceIn}
 use Rattle.reads_slots.specs.declared.State.{State}
 use Rattle.reads_slots.specs.declared.State.the-variants.{Free, Open}
 use Rattle.reads_slots.specs.Slots.{isOpen}
@@ -22,8 +23,7 @@ use Rattle.reads_answers.specs.declared.TakeAnswer.the-variants.{Done}
 use Rattle.reads.specs.Tables.{newTable, stateAt}
 use Rattle.reads_answers.specs.Takes.{readIn}
 use Rattle.reads.specs.TakeCall.{takeCall}
-use Rattle.cuttings.specs.Lawful.{pieceIn, takenTo, cleanPacket, lawfulFrom}
-use Rattle.cuttings.proofs.PieceByPiece.{piece-by-piece}
+use Rattle.cuttings.specs.Lawful.{takenTo, cleanPacket, lawfulFrom}
 use Rattle.reads_demands.specs.History.{Call, History, Change, keeps, opens, adds, closes, change, requestAfter, openRequest, piecesAfter, takenPieces, doublewords}
 use Rattle.reads_demands.specs.History.{recordsOf, answeredBy, answersAfter, answersOf}
 use Rattle.reads_demands.specs.Demand2.{Continues}
@@ -147,7 +147,7 @@ module _ {o : Origin} {t : Table} {h : History} (f : Follows o t h) (k : Begins 
           record {
             request = q;
             is-open = n;
-            cutting = piece-by-piece o tag q (bs ++ (b ∷ [])) ∙ begun-lawful o tag q 0 (bs ++ (b ∷ [])) g (rw (doublewords-end bs b) (omega arith));
+            cutting = begun-lawful o tag q 0 (bs ++ (b ∷ [])) g (rw (doublewords-end bs b) (omega arith));
             holds = c .holds;
           }
 
@@ -158,7 +158,7 @@ module _ {o : Origin} {t : Table} {h : History} (f : Follows o t h) (k : Begins 
       let q = x .request in
       let bs = takenPieces tag h in
       let p = doublewords bs in
-      let g = lawful-begun o tag q 0 (bs ++ (b ∷ [])) (sym (piece-by-piece o tag q (bs ++ (b ∷ []))) ∙ x .cutting) in
+      let g = lawful-begun o tag q 0 (bs ++ (b ∷ [])) (x .cutting) in
       let z : 0 + p ≡ p = omega arith in
       let l : LawfulPiece o tag q p b = rw z at (begun-last o tag q 0 bs b (g .0)) in
       let c : Continues t b (length store) (takenTo q p) = record {

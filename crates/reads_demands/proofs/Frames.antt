@@ -12,6 +12,7 @@ use Rattle.reads_rules.specs.declared.piece.Piece.{Piece}
 use Rattle.reads_rules.specs.declared.request.ReadRequest.{ReadRequest}
 use Rattle.reads_rules.specs.Windows.{windowEnd}
 use Rattle.reads_rules.specs.Validity.{owedOf}
+use Rattle.reads_rules.specs.Pieces.{pieceIn}
 use Rattle.reads_store.specs.Stores.{partAt, stored}
 use Rattle.reads_store.proofs.StoreLaws.{length-stored, stored-before, stored-after}
 use Rattle.reads.specs.declared.table.Table.{Table}
@@ -26,8 +27,8 @@ use Rattle.reads.specs.Tables.{stateAt}
 use Rattle.reads_answers.specs.Takes.{readIn}
 use Rattle.reads.specs.OpenCall.{headerPacket, openCall, openOut, tableOpened, outGiven}
 use Rattle.reads.specs.TakeCall.{takeCall, takeStore, tableGiven, storeGiven}
+use Rattle.tlp_read.specs.Read.{payloadIn}
 use Rattle.reads.specs.OtherCalls.{withdrawCall, tableWithdrawn}
-use Rattle.cuttings.specs.Lawful.{pieceIn, payloadIn}
 use Rattle.reads_demands.specs.History.{Call, opening, taking, withdrawing, asking}
 use Rattle.reads_demands.specs.Demand2.{Continues}
 use Rattle.reads_demands.specs.Demand3.{Outside, TakeFrame, Refusal, answered, eventNumber}

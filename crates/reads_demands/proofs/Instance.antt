@@ -37,8 +37,7 @@ use Rattle.reads.specs.OpenCall.{openCall}
 use Rattle.reads.specs.TakeCall.{packetTaking, packetStore, takeCall, takeStore}
 use Rattle.reads_answers.specs.Takes.{outcome, packetAnswer}
 use Rattle.reads.specs.OtherCalls.{withdrawCall, owedCall}
-use Rattle.cuttings.specs.Rows.{rowFrom, lawfulRow}
-use Rattle.cuttings.specs.Lawful.{readsAsCompletion, cleanPacket, lengthsOf, cleanFrom, fieldsFrom, lawfulCutting}
+use Rattle.cuttings.specs.Lawful.{readsAsCompletion, cleanPacket, lawfulFrom, lawfulCutting}
 use Rattle.reads_demands.specs.History.{opening, taking}
 use Rattle.reads_demands.specs.Demand3.{next, run, answers, calls, pieces, Undisturbed, SameWindow, SameStore, Delivered}
 use Rattle.reads_demands.specs.Instance.{origin, read, shortRead, piece₁, piece₂, piece₃, storeOf, rest₀, rest₁, rest₂, out, list, given, before, between, afterwards, opened, Premises}
@@ -68,7 +67,7 @@ record Computed : Type 0 where
 computed : Computed
 unfolding run answers newTable stateAt withState tagLimit validTable openCall takeCall takeStore packetTaking packetStore packetAnswer outcome withdrawCall owedCall allBelow
     anyBelow sumBelow merged stored sharesOpen owedSum recordAt stateBelow contains changed withBit withoutBit readAt readOf putRead putWords clearRead validRead owedOf givenBad requestPacket placeBad sharesByte holdsWindow isCompletion pieceOf statusBad
-    differs clean legal byteCountAt lowerAddressAt cutAllowed lawfulCutting cleanFrom cleanPacket readsAsCompletion lawfulRow rowFrom lengthsOf fieldsFrom first
+    differs clean legal byteCountAt lowerAddressAt cutAllowed lawfulFrom cleanPacket readsAsCompletion first
     settingsListed commonBad ownBad requestBad reservedGiven addressRouteBad routeBad readPacket payloadOf hintOrAddressTypeSet routingBad formBad packetAt kindAt routeAt
     completionAt attributesAt plainBad enablesBad pageBad sizeOf bytesCalled digestBytes dataBytes digestAt lengthAt orMost typeAt typeOf accessOf enablesAllowed enabled
     enablesAt total off trail clearBelow clearAbove

@@ -7,7 +7,8 @@ use lib.Dec.{leb}
 use Rattle.reads_rules.specs.declared.request.ReadRequest.{ReadRequest}
 use Rattle.reads_rules.specs.declared.origin.Origin.{Origin}
 use Rattle.reads_rules.specs.Continuations.{legal}
-use Rattle.cuttings.specs.Lawful.{pieceIn, takenTo, cleanPacket, lawfulFrom}
+use Rattle.reads_rules.specs.Pieces.{pieceIn}
+use Rattle.cuttings.specs.Lawful.{takenTo, cleanPacket, lawfulFrom}
 
 module _ (o : Origin) (tag : ℕ) (q : ReadRequest) where
   -- "clean pieces, each legal in turn, none over MPS"

@@ -18,3 +18,4 @@ pub mod Delivery
 pub mod Whole
 pub mod OneForm
 pub mod Instance
+pub mod Edges

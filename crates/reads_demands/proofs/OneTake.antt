@@ -12,13 +12,13 @@ use Rattle.bits.specs.Choice.{pick}
 use Rattle.tlp.specs.Rows.{first, NoneHold}
 use Rattle.tlp.proofs.RowLaws.{first-none, none-first}
 use Rattle.tlp.specs.declared.packet.Packet.{Packet}
-use Rattle.tlp_read.specs.Read.{readRows, readPacket, answerOf, payloadOf}
+use Rattle.tlp_read.specs.Read.{readRows, readPacket, answerOf, payloadOf, packetIn, payloadIn}
 use Rattle.reads_rules.specs.declared.read.Read.{Read}
 use Rattle.reads_rules.specs.declared.piece.Piece.{Piece}
 use Rattle.reads_rules.specs.declared.origin.Origin.{Origin}
 use Rattle.reads_rules.specs.Windows.{holdsWindow}
 use Rattle.reads_rules.specs.Validity.{owedOf}
-use Rattle.reads_rules.specs.Pieces.{pieceOf}
+use Rattle.reads_rules.specs.Pieces.{pieceOf, pieceIn}
 use Rattle.reads_rules.specs.Continuations.{succeeds, statusBad, legal, reported}
 use Rattle.reads_slots.specs.declared.State.{State}
 use Rattle.reads_slots.specs.declared.State.the-variants.{Free, Open}
@@ -30,7 +30,7 @@ use Rattle.reads_answers.specs.declared.TakeAnswer.the-variants.{More, Done, Fa
 use Rattle.reads.specs.Tables.{stateAt, validTable}
 use Rattle.reads_answers.specs.Takes.{readIn, tagOf, ownRows, outcome, numberOr, packetAnswer}
 use Rattle.reads.specs.TakeCall.{packetTaking, packetStore, answerTaking, answerStore, tableGiven, storeGiven, takeCall, takeStore}
-use Rattle.cuttings.specs.Lawful.{packetIn, pieceIn, payloadIn, cleanPacket}
+use Rattle.cuttings.specs.Lawful.{cleanPacket}
 use Rattle.reads_demands.specs.Demand2.{Continues}
 use Rattle.reads_demands.proofs.Tests.{neither, asked}
 use Rattle.reads_demands.proofs.CleanPieces.{CleanPiece, clean-bytes, bytes-clean, legal-length}

@@ -19,9 +19,8 @@ use Rattle.tlp.specs.declared.settings.Settings.{Settings}
 use Rattle.tlp.specs.declared.packet_type.PacketType.{PacketType}
 use Rattle.tlp.specs.declared.packet_type.PacketType.the-variants.{MRd32, MRd64, MWr32, MWr64, IORd, IOWr, CfgRd0, CfgWr0, CfgRd1, CfgWr1, Msg, MsgD, Cpl, CplD, Unlisted}
 use Rattle.tlp_read.specs.Fields.{addressAt, packetAt, kindAt, routeAt}
-use Rattle.tlp_read.specs.Read.{readRows, payloadOf}
-use Rattle.reads_rules.specs.Pieces.{ofCompletions, isCompletion, pieceOf}
-use Rattle.cuttings.specs.Lawful.{packetIn, pieceIn, payloadIn}
+use Rattle.tlp_read.specs.Read.{readRows, payloadOf, packetIn, payloadIn}
+use Rattle.reads_rules.specs.Pieces.{ofCompletions, isCompletion, pieceOf, pieceIn}
 
 -- a memory request has one of two types, and neither is a completion's
 no-form : (a : ℕ) (narrow wide : PacketType) → ofCompletions (familyOf narrow) ≡ false → ofCompletions (familyOf wide) ≡ false

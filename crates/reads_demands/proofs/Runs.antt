@@ -17,6 +17,7 @@ use Rattle.reads_rules.specs.declared.origin.Origin.{Origin}
 use Rattle.reads_rules.specs.Requests.{requestRows}
 use Rattle.reads_rules.specs.Windows.{storeLimit, windowEnd, placeRows, sharesByte}
 use Rattle.reads_rules.specs.Validity.{validRead}
+use Rattle.reads_rules.specs.Pieces.{pieceIn}
 use Rattle.reads_slots.specs.declared.State.{State}
 use Rattle.reads_slots.specs.declared.State.the-variants.{Free, Open}
 use Rattle.reads_slots.specs.Slots.{validState, sharesIn}
@@ -24,7 +25,6 @@ use Rattle.reads_slots.specs.Records.{FitsIn}
 use Rattle.reads_slots.proofs.RecordLaws.{free-fits, open-fits}
 use Rattle.reads.specs.declared.table.Table.{Table}
 use Rattle.reads.specs.TakeCall.{advanced}
-use Rattle.cuttings.specs.Lawful.{pieceIn}
 use Rattle.reads.specs.Tables.{tagLimit, newTable, stateAt, withState, validTable}
 use Rattle.reads_demands.specs.History.{Call, Event, Change, keeps, opens, adds, closes, eventTag, eventChange, change}
 use Rattle.reads_demands.specs.Demand3.{next, answered, run}

@@ -6,6 +6,7 @@ use mathlib.Core.List.{List, [], _∷_, _++_}
 use native.Mathlib.Omega.{arith}
 use lib.ListN.{length}
 use Rattle.reads_rules.specs.declared.request.ReadRequest.{ReadRequest}
+use Rattle.reads_rules.specs.Pieces.{pieceIn}
 use Rattle.reads_slots.specs.declared.State.{State}
 use Rattle.reads_slots.specs.declared.State.the-variants.{Free, Open}
 use Rattle.reads.specs.declared.table.Table.{Table}
@@ -19,7 +20,6 @@ use Rattle.reads.specs.Tables.{stateAt, withState}
 use Rattle.reads.specs.OpenCall.{tableOpened, openCall}
 use Rattle.reads.specs.TakeCall.{advanced, tableGiven, takeCall}
 use Rattle.reads.specs.OtherCalls.{tableWithdrawn, withdrawCall}
-use Rattle.cuttings.specs.Lawful.{pieceIn}
 use Rattle.reads_demands.specs.History.{Call, opening, taking, withdrawing, asking, Event}
 use Rattle.reads_demands.specs.History.{History, Change, keeps, opens, adds, closes, openChange, takeChange, withdrawChange, eventTag, eventChange, change}
 use Rattle.reads_demands.specs.History.{requestAfter, openRequest, piecesAfter, takenPieces, doublewords, recordFrom, recordsOf}

@@ -9,11 +9,11 @@ use borrow.Author.Tests.{eq-eqb}
 use Rattle.bits.specs.Choice.{pick}
 use Rattle.reads_rules.specs.declared.read.Read.{Read}
 use Rattle.reads_rules.specs.Validity.{owedOf}
+use Rattle.reads_rules.specs.Pieces.{pieceIn}
 use Rattle.reads.specs.declared.table.Table.{Table}
 use Rattle.reads_answers.specs.declared.TakeAnswer.{TakeAnswer}
 use Rattle.reads_answers.specs.declared.TakeAnswer.the-variants.{More, Done}
 use Rattle.reads.specs.TakeCall.{takeCall}
-use Rattle.cuttings.specs.Lawful.{pieceIn}
 use Rattle.reads_demands.specs.Demand2.{Continues, TakenExactly}
 use Rattle.reads_demands.proofs.OneTake.{takes, Met, meets, continues, done-last}
 

@@ -15,7 +15,8 @@ use Rattle.reads_rules.specs.declared.request.ReadRequest.{ReadRequest}
 use Rattle.reads_rules.specs.Windows.{windowEnd}
 use Rattle.reads_store.specs.Stores.{partAt, stored}
 use Rattle.reads_store.proofs.StoreLaws.{stored-before, stored-in, stored-after}
-use Rattle.cuttings.specs.Lawful.{payloadIn, payloadsJoined}
+use Rattle.tlp_read.specs.Read.{payloadIn}
+use Rattle.cuttings.specs.Lawful.{payloadsJoined}
 use Rattle.reads_demands.proofs.Limits.{either}
 
 pub joined-end : (bs : List (List ℕ)) (b : List ℕ) → payloadsJoined (bs ++ (b ∷ [])) ≡ payloadsJoined bs ++ payloadIn b

@@ -9,12 +9,13 @@ use Rattle.reads_rules.specs.declared.read.Read.{Read}
 use Rattle.reads_rules.specs.Validity.{owedOf}
 use Rattle.reads_rules.specs.Windows.{holdsWindow}
 use Rattle.reads_rules.specs.Continuations.{legal}
+use Rattle.reads_rules.specs.Pieces.{pieceIn}
 use Rattle.reads_slots.specs.declared.State.the-variants.{Open}
 use Rattle.reads.specs.declared.table.Table.{Table}
 use Rattle.reads_answers.specs.declared.TakeAnswer.the-variants.{More, Done}
 use Rattle.reads.specs.Tables.{stateAt, validTable}
 use Rattle.reads.specs.TakeCall.{takeCall}
-use Rattle.cuttings.specs.Lawful.{pieceIn, cleanPacket}
+use Rattle.cuttings.specs.Lawful.{cleanPacket}
 
 -- the packet is a clean completion that legally continues the read r, which is open, and the store holds r's window
 pub record Continues (t : Table) (b : List ℕ) (room : ℕ) (r : Read) : Type 0 where

@@ -12,6 +12,7 @@ use Rattle.tlp.specs.Settings.{settingsListed}
 use Rattle.reads_rules.specs.declared.request.ReadRequest.{ReadRequest}
 use Rattle.reads_rules.specs.declared.origin.Origin.{Origin}
 use Rattle.reads_rules.specs.Windows.{windowEnd, holdsWindow}
+use Rattle.reads_rules.specs.Pieces.{pieceIn}
 use Rattle.reads_slots.specs.declared.State.{State}
 use Rattle.reads_slots.specs.declared.State.the-variants.{Free, Open}
 use Rattle.reads.specs.declared.table.Table.{Table}
@@ -21,7 +22,7 @@ use Rattle.reads.specs.Answers.{openNumber, takeNumber, withdrawNumber, owedNum
 use Rattle.reads.specs.OpenCall.{openCall, openOut}
 use Rattle.reads.specs.TakeCall.{takeCall, takeStore}
 use Rattle.reads.specs.OtherCalls.{withdrawCall, owedCall}
-use Rattle.cuttings.specs.Lawful.{pieceIn, lawfulCutting, payloadsJoined}
+use Rattle.cuttings.specs.Lawful.{lawfulCutting, payloadsJoined}
 use Rattle.reads_demands.specs.History.{Call, opening, taking, withdrawing, asking, Event, openEvent, takeEvent, withdrawEvent, owedEvent, History, openRequest, takenPieces, recordsOf, answersOf}
 
 -- ---- the table's step: the definitions that the calls of crate reads are equal to

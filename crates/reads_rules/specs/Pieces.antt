@@ -1,6 +1,7 @@
 -- What a packet says as a completion.
 use Prim.Native.Nat.{ℕ}
 use mathlib.Core.Bool.{Bool, true, false}
+use mathlib.Core.List.{List}
 use Rattle.tlp.specs.PacketTypes.{hasData, familyOf}
 use Rattle.tlp.specs.Packets.{typeOf, accessOf, idOf}
 use Rattle.tlp.specs.declared.packet.CompletionHeader.{CompletionHeader}
@@ -9,6 +10,7 @@ use Rattle.tlp.specs.declared.packet.Kind.the-variants.{MemoryRead, MemoryWrite
 use Rattle.tlp.specs.declared.packet.Packet.{Packet}
 use Rattle.tlp.specs.declared.packet_type.Family.{Family}
 use Rattle.tlp.specs.declared.packet_type.Family.the-variants.{Memory, Io, Config, Message as OfMessages, Completion as OfCompletions, Unlisted}
+use Rattle.tlp_read.specs.Read.{packetIn}
 use Rattle.reads_rules.specs.declared.piece.Piece.{Piece}
 
 abbrev pub ofCompletions : Family → Bool
@@ -52,3 +54,7 @@ pieceOf p = record {
   length = accessOf p .length;
   header = headerIn (p .kind);
 }
+
+-- the packet that stands in bytes, as a completion
+abbrev pub pieceIn : List ℕ → Piece
+pieceIn bytes = pieceOf (packetIn bytes)

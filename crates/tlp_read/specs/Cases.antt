@@ -1,5 +1,6 @@
--- Document 01's own cases about packets, as one statement over one table, computed from the definitions: P8 to P11, and the packets of the capture
--- that it prints whole. MPS is 128, MRRS 512, RCB 64.
+-- Document 01's own cases about packets, computed from the definitions: the packets of the capture that it prints whole
+-- (MPS 128, MRRS 512, RCB 64), and fields in which 0 is the largest. (P8 to P11 are in reads_demands.)
+-- No promise cites this file.
 use Prim.Native.Nat.{ℕ}
 use mathlib.Core.Path.{_≡_, refl}
 use mathlib.Core.Bool.{Bool, true, _&&_}
@@ -29,17 +30,7 @@ gives n s = record { bytes = s; number = n }
 
 abbrev pub cases : List Case
 cases =
-    -- P8: L=1024, A=2000h: a Length field of 0
-    gives 0 (0x00 ∷ 0 ∷ 0x00 ∷ 0x00 ∷ 0x01 ∷ 0 ∷ 5 ∷ 0xFF ∷ 0 ∷ 0 ∷ 0x20 ∷ 0 ∷ [])
-    -- P9: A=FFCh: L=1 stands, L=2 gives 8
-    ∷ gives 0 (0x00 ∷ 0 ∷ 0 ∷ 1 ∷ 0x01 ∷ 0 ∷ 5 ∷ 0x0F ∷ 0 ∷ 0 ∷ 0x0F ∷ 0xFC ∷ [])
-    ∷ gives 8 (0x00 ∷ 0 ∷ 0 ∷ 2 ∷ 0x01 ∷ 0 ∷ 5 ∷ 0xFF ∷ 0 ∷ 0 ∷ 0x0F ∷ 0xFC ∷ [])
-    -- P10: L=3, first 1010 gives 7
-    ∷ gives 7 (0x00 ∷ 0 ∷ 0 ∷ 3 ∷ 0x01 ∷ 0 ∷ 5 ∷ 0xFA ∷ 0 ∷ 0 ∷ 0x10 ∷ 0 ∷ [])
-    -- P11: L=2, last 0000 gives 7
-    ∷ gives 7 (0x00 ∷ 0 ∷ 0 ∷ 2 ∷ 0x01 ∷ 0 ∷ 5 ∷ 0x0F ∷ 0 ∷ 0 ∷ 0x10 ∷ 0 ∷ [])
-    -- the capture's four packets
-    ∷ gives 0 (0x00 ∷ 0 ∷ 0 ∷ 1 ∷ 0x01 ∷ 0 ∷ 5 ∷ 0 ∷ 0 ∷ 0 ∷ 0x10 ∷ 0 ∷ [])
+    gives 0 (0x00 ∷ 0 ∷ 0 ∷ 1 ∷ 0x01 ∷ 0 ∷ 5 ∷ 0 ∷ 0 ∷ 0 ∷ 0x10 ∷ 0 ∷ [])
     ∷ gives 0 (0x4A ∷ 0 ∷ 0 ∷ 1 ∷ 0x02 ∷ 0 ∷ 0 ∷ 1 ∷ 0x01 ∷ 0 ∷ 5 ∷ 0 ∷ 0 ∷ 0 ∷ 0 ∷ 0 ∷ [])
     ∷ gives 7 (0x00 ∷ 0 ∷ 0 ∷ 2 ∷ 0x01 ∷ 0 ∷ 5 ∷ 0 ∷ 0 ∷ 0 ∷ 0x10 ∷ 0 ∷ [])
     ∷ gives 1 (0x00 ∷ 0 ∷ 0 ∷ 1 ∷ [])
@@ -53,7 +44,7 @@ pub cases-hold : holds cases ≡ true
 unfolding readPacket first settingsListed typeAt accessOf enablesAllowed orMost lengthAt digestAt dataBytes digestBytes bytesCalled notPlain plainBad enablesBad pageBad attributesAt digestWord requestAt configAt messageAt completionAt implicitAt messageRouteAt routeAt kindAt packetAt hintOrAddressTypeSet routingBad formBad
 cases-hold = refl
 
--- P8 and the other two fields in which 0 is the largest: Length 1024, Byte Count 4096
+-- "Length 0 means 1024 DW."; Byte Count: "0 meaning 4096"
 pub largest : (lengthAt (0 ∷ 0 ∷ 0 ∷ 0 ∷ []) ≡ 1024) × (completionAt (0x0A ∷ 0 ∷ 0 ∷ 0 ∷ 0 ∷ 0 ∷ 0 ∷ 0 ∷ 0 ∷ 0 ∷ 0 ∷ 0 ∷ []) .«byte_count» ≡ 4096)
 unfolding lengthAt completionAt orMost
 largest = (refl, refl)

@@ -64,3 +64,10 @@ numberOf (Refused r) = r .number
 -- the data of a packet in the bytes that hold it: what follows the header, as far as there is any
 unfoldable pub payloadOf : Packet → List ℕ → List ℕ
 payloadOf p s = take (dataBytes (typeOf p) (accessOf p .length)) (drop (4 * headerDw (typeOf p)) s)
+
+-- the packet that stands in bytes, and its data
+abbrev pub packetIn : List ℕ → Packet
+packetIn bytes = packetAt (typeAt (byte bytes 0)) bytes
+
+abbrev pub payloadIn : List ℕ → List ℕ
+payloadIn bytes = payloadOf (packetIn bytes) bytes
