@@ -1,2 +1,2 @@
-pub mod CuttingsProof
-pub mod ByTheRow
+pub mod Rows
+pub mod ByRow

@@ -19,8 +19,8 @@ lawfulRow a mps rcb ns = rowFrom a mps rcb 0 ns
 
 -- the rows that begin with a length from most down to 1 that stands, each followed by what may follow it
 abbrev pub startingWith : (ℕ → Bool) → (ℕ → List (List ℕ)) → ℕ → List (List ℕ)
-startingWith stands after zero = []
-startingWith stands after (suc n) = pick (stands (suc n)) (map (λ ns. suc n ∷ ns) (after (suc n))) [] ++ startingWith stands after n
+startingWith stands tails zero = []
+startingWith stands tails (suc n) = pick (stands (suc n)) (map (λ ns. suc n ∷ ns) (tails (suc n))) [] ++ startingWith stands tails n
 
 -- the rows from doubleword p on; no more than k pieces
 unfoldable pub rowsFrom : ℕ → Access → ℕ → ℕ → ℕ → List (List ℕ)

@@ -42,14 +42,14 @@ module _ (requester tag : ℕ) (q : ReadRequest) where
   same-given r t = rw (lt-leb (2 ^ 16) requester r, lt-leb (2 ^ 8) tag t)
 
   -- a read has no data, so 3, 5 and the second 6 do not come
-  same-later : (s : Settings) (space : ℕ)
-      → first (laterRows s packet 0 space) ≡ first (row 7 (enablesBad Memory (q .access)) ∷ row 8 (pageBad Memory (q .access)) ∷ row 12 (ltb space (sizeOf packet)) ∷ [])
-  same-later s space = let k = read-type requester tag q in rw (k .1 (accessOf packet .length), le-ltb (s .mps) 0 zero-le, k .0) (unfold first plainBad requestPacket accessOf in refl)
+  same-later : (settings : Settings) (space : ℕ)
+      → first (laterRows settings packet 0 space) ≡ first (row 7 (enablesBad Memory (q .access)) ∷ row 8 (pageBad Memory (q .access)) ∷ row 12 (ltb space (sizeOf packet)) ∷ [])
+  same-later settings space = let k = read-type requester tag q in rw (k .1 (accessOf packet .length), le-ltb (settings .mps) 0 zero-le, k .0) (unfold first plainBad requestPacket accessOf in refl)
 
 pub as-writer : AsWriter
 unfolding givenBad
-as-writer s requester tag q space listed r t =
-    let a : first (writeRows s (packet requester tag q) 0 space) ≡ first (givenRows (packet requester tag q) ++ laterRows s (packet requester tag q) 0 space) =
+as-writer settings requester tag q space listed r t =
+    let a : first (writeRows settings (packet requester tag q) 0 space) ≡ first (givenRows (packet requester tag q) ++ laterRows settings (packet requester tag q) 0 space) =
     unfold first in rw listed in
-    a ∙ given-place (packet requester tag q) (laterRows s (packet requester tag q) 0 space)
-    ∙ rw (same-given requester tag q r t, same-later requester tag q s space) (unfold first in refl)
+    a ∙ given-place (packet requester tag q) (laterRows settings (packet requester tag q) 0 space)
+    ∙ rw (same-given requester tag q r t, same-later requester tag q settings space) (unfold first in refl)

@@ -15,7 +15,7 @@ use Rattle.reads_rules.specs.Validity.{owedOf}
 use Rattle.reads_rules.specs.Pieces.{isCompletion, pieceIn}
 use Rattle.reads_rules.specs.Continuations.{cutAllowed, succeeds, differs, legal, clean}
 use Rattle.cuttings.specs.Lawful.{readsAsCompletion, cleanPacket}
-use Rattle.reads_demands.proofs.PieceSizes.{Sized, sized}
+use Rattle.reads_demands.proofs.PieceSizes.{PieceSize, piece-size}
 
 -- what clean says, field by field
 pub record CleanPiece (o : Origin) (tag : ℕ) (r : Read) (c : Piece) : Type 0 where
@@ -56,7 +56,7 @@ pub record CleanBytes (o : Origin) (tag : ℕ) (r : Read) (b : List ℕ) : Type 
   pub reads : first (readRows (o .settings) b) ≡ 0
   pub completion : isCompletion (packetIn b) ≡ true
   pub piece : CleanPiece o tag r (pieceIn b)
-  pub size : Sized (o .settings) b
+  pub size : PieceSize (o .settings) b
 
 module _ (o : Origin) (tag : ℕ) (r : Read) (b : List ℕ) where
   pub clean-bytes : cleanPacket o tag r b ≡ true → CleanBytes o tag r b
@@ -66,7 +66,7 @@ module _ (o : Origin) (tag : ℕ) (r : Read) (b : List ℕ) where
       let z = and-eq-true-iff _ _ .0 (a .0) in
       let k = clean-fields o tag r (pieceIn b) (a .1) in
       let n = eqb-true _ _ (z .0) in
-      record { reads = n; completion = z .1; piece = k; size = sized (o .settings) b n (z .1) (k .with-data) }
+      record { reads = n; completion = z .1; piece = k; size = piece-size (o .settings) b n (z .1) (k .with-data) }
 
   pub bytes-clean : first (readRows (o .settings) b) ≡ 0 → isCompletion (packetIn b) ≡ true → CleanPiece o tag r (pieceIn b) → cleanPacket o tag r b ≡ true
   unfolding cleanPacket readsAsCompletion

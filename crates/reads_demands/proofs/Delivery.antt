@@ -43,12 +43,12 @@ use Rattle.reads_demands.specs.Demand3.{next, answered, lent, left, run,
 use Rattle.reads_demands.proofs.LawfulPieces.{next-piece}
 use Rattle.reads_demands.proofs.CleanPieces.{clean-bytes, legal-length, within-window}
 use Rattle.reads_demands.proofs.OneTake.{continues, take-store}
-use Rattle.reads_demands.proofs.Limits.{either}
+use Rattle.reads_demands.proofs.Limits.{true-or-false}
 use Rattle.reads_demands.proofs.Steps.{doublewords-end}
 use Rattle.reads_demands.proofs.Accepted.{opened-rows, place-parts}
 use Rattle.reads_demands.proofs.Runs.{Sound, sound-next, sound-valid, state-next, apart}
 use Rattle.reads_demands.proofs.Frames.{frame, take-unchanged}
-use Rattle.reads_demands.proofs.WindowBytes.{joined-end, windowByte, piece-bytes}
+use Rattle.reads_demands.proofs.WindowBytes.{payloads-end, windowByte, piece-bytes}
 
 -- ---- a lawful cutting, from its next piece on
 
@@ -82,7 +82,7 @@ open-keeps t q tag room space r e = go (openCall t q tag room space .answer) ref
 take-keeps : (b : List ℕ) (x : TakeAnswer) → 0 < takeNumber x → takeChange b x ≡ keeps
 take-keeps b More h = absurd (omega arith)
 take-keeps b Done h = absurd (omega arith)
-take-keeps b (Failed s) h = absurd (omega arith)
+take-keeps b (Failed status) h = absurd (omega arith)
 take-keeps b Poisoned h = absurd (omega arith)
 take-keeps b (Unread r) h = refl
 take-keeps b (Refused n) h = refl
@@ -122,12 +122,12 @@ other-outside {t = t} g tag u ne r e k h = go (stateAt t u) refl
   where
     go : (x : State) → stateAt t u ≡ x → Outside x (r .request .start + k)
     go Free f = tt
-    go (Open s) f = apart-outside (r .request) (s .request) k (apart g tag u ne r s e f) h
+    go (Open r₂) f = apart-outside (r .request) (r₂ .request) k (apart g tag u ne r r₂ e f) h
 
 module _ {o : Origin} {t : Table} (g : Sound o t) (tag : ℕ) (r : Read) (is : stateAt t tag ≡ Open r) where
   take-window : (b store : List ℕ) → Harmless tag (takeEvent b store (takeCall t b (length store) .answer)) → (k : ℕ) → k < 4 * r .request .access .length
       → getD (takeStore t b store) (r .request .start + k) 0 ≡ getD store (r .request .start + k) 0
-  take-window b store h k l = go (either (eqb (pieceIn b .header .tag) tag))
+  take-window b store h k l = go (true-or-false (eqb (pieceIn b .header .tag) tag))
     where
       go : (eqb (pieceIn b .header .tag) tag ≡ true) ⊎ (eqb (pieceIn b .header .tag) tag ≡ false)
           → getD (takeStore t b store) (r .request .start + k) 0 ≡ getD store (r .request .start + k) 0
@@ -162,13 +162,13 @@ module _ (o : Origin) (q : ReadRequest) (tag : ℕ) (opened : List ℕ) (sofar :
   mid-other : (c : Call) → Harmless tag (answered t c) → SameWindow q last (lent c) → Mid o q tag opened sofar (next t c) (orLast last (left t c))
   mid-other c h w =
       let r = takenTo q (doublewords sofar) in
-      let s = other-store (m .sound) tag r (m .is) last c h w in
+      let kept = other-store (m .sound) tag r (m .is) last c h w in
       record {
         sound = sound-next (m .sound) c;
         is = state-next (m .sound) c tag ∙ rw (harmless-keeps t tag r c (m .is) h) (m .is);
         laid = m .laid;
-        size = s .0 ∙ m .size;
-        window = λ k l. s .1 k l ∙ m .window k l;
+        size = kept .0 ∙ m .size;
+        window = λ k l. kept .1 k l ∙ m .window k l;
       }
 
   -- ---- a piece is taken
@@ -209,13 +209,13 @@ module _ (o : Origin) (q : ReadRequest) (tag : ℕ) (opened : List ℕ) (sofar :
     left-window k h =
         let n = legal-length o (takenTo q (doublewords sofar)) (pieceIn b) legal! in
         let z = clean-bytes o tag (takenTo q (doublewords sofar)) b clean! .size .payload in
-        rw (piece-written (eqb (pieceIn b .length) (q .access .length - doublewords sofar)) piece-answer, doublewords-end sofar b, joined-end sofar b)
+        rw (piece-written (eqb (pieceIn b .length) (q .access .length - doublewords sofar)) piece-answer, doublewords-end sofar b, payloads-end sofar b)
         (piece-bytes q (doublewords sofar) (pieceIn b .length) (payloadsJoined sofar) (payloadIn b) store opened (m .laid) z (omega arith) (omega (arith, store-size)) k h (w .1 k h ∙ m .window k h))
 
     laid-size : length (payloadsJoined (sofar ++ (b ∷ []))) ≡ 4 * doublewords (sofar ++ (b ∷ []))
     laid-size =
         let z = clean-bytes o tag (takenTo q (doublewords sofar)) b clean! .size .payload in
-        rw (doublewords-end sofar b, joined-end sofar b, length-append (payloadsJoined sofar) (payloadIn b)) (omega (arith, m .laid))
+        rw (doublewords-end sofar b, payloads-end sofar b, length-append (payloadsJoined sofar) (payloadIn b)) (omega (arith, m .laid))
 
     mid-piece : doublewords sofar + pieceIn b .length < q .access .length
         → (takeCall t b (length store) .answer ≡ More) × Mid o q tag opened (sofar ++ (b ∷ [])) (next t (taking b store)) (takeStore t b store)
@@ -255,11 +255,11 @@ deliver o q tag opened b store limit room [] sofar t last m e u w =
 deliver o q tag opened b store limit room (other c ∷ mid) sofar t last m e u w =
     let i = deliver o q tag opened b store limit room mid sofar (next t c) (orLast last (left t c)) (mid-other o q tag opened sofar t last m c (u .0) (w .0)) e (u .1) (w .1) in
     record { taken = i .taken; done = i .done; free = i .free; bytes = i .bytes }
-deliver o q tag opened b store limit room (piece x s ∷ mid) sofar t last m e u w =
+deliver o q tag opened b store limit room (piece x store₁ ∷ mid) sofar t last m e u w =
     let n = next-piece o tag q (doublewords sofar) x (pieces mid ++ (b ∷ [])) e in
     let l = pieces-left o tag q (doublewords sofar + pieceIn x .length) (pieces mid) b (n .1) in
-    let k = mid-piece o q tag opened sofar t last m limit room x s (n .0 .is-clean) (n .0 .is-legal) (w .0) l in
-    let i = deliver o q tag opened b store limit room mid (sofar ++ (x ∷ [])) (next t (taking x s)) (takeStore t x s) (k .1) (rw (doublewords-end sofar x) (n .1)) u (w .1) in
+    let k = mid-piece o q tag opened sofar t last m limit room x store₁ (n .0 .is-clean) (n .0 .is-legal) (w .0) l in
+    let i = deliver o q tag opened b store limit room mid (sofar ++ (x ∷ [])) (next t (taking x store₁)) (takeStore t x store₁) (k .1) (rw (doublewords-end sofar x) (n .1)) u (w .1) in
     record {
       taken = (k .0, i .taken);
       done = i .done;

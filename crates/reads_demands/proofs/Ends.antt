@@ -91,8 +91,8 @@ record-free : (h : History) (tag : ℕ) → openRequest tag h ≡ none → recor
 unfolding recordsOf
 record-free h tag e = rw e
 
-same-read : (x : State) (r s : Read) → x ≡ Open r → x ≡ Open s → r ≡ s
-same-read x r s e f = ap readIn (sym e ∙ f)
+same-read : (x : State) (r r₂ : Read) → x ≡ Open r → x ≡ Open r₂ → r ≡ r₂
+same-read x r r₂ e f = ap readIn (sym e ∙ f)
 
 none-some : (q : ReadRequest) → none ≡ some q → ⊥
 none-some q e = let z : _≡_ {A = ℕ} 0 1 = cc in omega arith

@@ -31,7 +31,7 @@ use Rattle.tlp_read.specs.Read.{payloadIn}
 use Rattle.reads.specs.OtherCalls.{withdrawCall, tableWithdrawn}
 use Rattle.reads_demands.specs.History.{Call, opening, taking, withdrawing, asking}
 use Rattle.reads_demands.specs.Demand2.{Continues}
-use Rattle.reads_demands.specs.Demand3.{Outside, TakeFrame, Refusal, answered, eventNumber}
+use Rattle.reads_demands.specs.Demand3.{Outside, TakeFrame, Unchanged, answered, eventNumber}
 use Rattle.reads_demands.proofs.Limits.{state-with-other}
 use Rattle.reads_demands.proofs.CleanPieces.{clean-bytes, legal-length, window-within}
 use Rattle.reads_demands.proofs.OneTake.{takes, Met, meets, take-table, take-store}
@@ -41,7 +41,7 @@ use Rattle.reads_demands.proofs.OneTake.{takes, Met, meets, take-table,
 given-other : (x : TakeAnswer) (t : Table) (c : Piece) (u : ℕ) → c .header .tag ≢ u → stateAt (tableGiven x t c) u ≡ stateAt t u
 given-other More t c u ne = state-with-other t (c .header .tag) _ u ne
 given-other Done t c u ne = state-with-other t (c .header .tag) _ u ne
-given-other (Failed s) t c u ne = state-with-other t (c .header .tag) _ u ne
+given-other (Failed status) t c u ne = state-with-other t (c .header .tag) _ u ne
 given-other Poisoned t c u ne = state-with-other t (c .header .tag) _ u ne
 given-other (Unread r) t c u ne = refl
 given-other (Refused n) t c u ne = refl
@@ -51,7 +51,7 @@ given-other (Refused n) t c u ne = refl
 given-size : (x : TakeAnswer) (r : Read) (payload store : List ℕ) → length (storeGiven x r payload store) ≡ length store
 given-size More r payload store = length-stored (r .request) (r .taken) payload store
 given-size Done r payload store = length-stored (r .request) (r .taken) payload store
-given-size (Failed s) r payload store = refl
+given-size (Failed status) r payload store = refl
 given-size Poisoned r payload store = refl
 given-size (Unread u) r payload store = refl
 given-size (Refused n) r payload store = refl
@@ -86,7 +86,7 @@ module _ (t : Table) (b store : List ℕ) where
       → getD (storeGiven x (readIn (stateAt t (pieceIn b .header .tag))) (payloadIn b) store) i 0 ≡ getD store i 0
   given-bytes More e i o = met-bytes (meets t b (length store) (ap takes e)) i o
   given-bytes Done e i o = met-bytes (meets t b (length store) (ap takes e)) i o
-  given-bytes (Failed s) e i o = refl
+  given-bytes (Failed status) e i o = refl
   given-bytes Poisoned e i o = refl
   given-bytes (Unread u) e i o = refl
   given-bytes (Refused n) e i o = refl
@@ -114,7 +114,7 @@ open-unchanged t q tag store out h = open-kept (openCall t q tag (length store) 
 take-kept : (x : TakeAnswer) (t : Table) (c : Piece) (r : Read) (payload store : List ℕ) → 0 < takeNumber x → (tableGiven x t c ≡ t) × (storeGiven x r payload store ≡ store)
 take-kept More t c r payload store h = absurd (omega arith)
 take-kept Done t c r payload store h = absurd (omega arith)
-take-kept (Failed s) t c r payload store h = absurd (omega arith)
+take-kept (Failed status) t c r payload store h = absurd (omega arith)
 take-kept Poisoned t c r payload store h = absurd (omega arith)
 take-kept (Unread u) t c r payload store h = (refl, refl)
 take-kept (Refused n) t c r payload store h = (refl, refl)
@@ -134,12 +134,12 @@ pub withdraw-unchanged : (t : Table) (tag : ℕ) → 0 < withdrawNumber (withdra
 unfolding withdrawCall
 withdraw-unchanged t tag h = withdraw-kept (withdrawCall t tag .answer) t tag h
 
-pub refusal : (t : Table) (c : Call) → 0 < eventNumber (answered t c) → Refusal t c
-refusal t (opening q tag store out) h =
+pub unchanged : (t : Table) (c : Call) → 0 < eventNumber (answered t c) → Unchanged t c
+unchanged t (opening q tag store out) h =
     let k = open-unchanged t q tag store out h in
     record { table = k .0; store = refl; out = k .1 }
-refusal t (taking b store) h =
+unchanged t (taking b store) h =
     let k = take-unchanged t b store h in
     record { table = k .0; store = ap some (k .1); out = refl }
-refusal t (withdrawing tag) h = record { table = withdraw-unchanged t tag h; store = refl; out = refl }
-refusal t asking h = record { table = refl; store = refl; out = refl }
+unchanged t (withdrawing tag) h = record { table = withdraw-unchanged t tag h; store = refl; out = refl }
+unchanged t asking h = record { table = refl; store = refl; out = refl }

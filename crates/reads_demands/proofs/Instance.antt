@@ -41,7 +41,7 @@ use Rattle.cuttings.specs.Lawful.{readsAsCompletion, cleanPacket, lawfulFrom, l
 use Rattle.reads_demands.specs.History.{opening, taking}
 use Rattle.reads_demands.specs.Demand3.{next, run, answers, calls, pieces, Undisturbed, SameWindow, SameStore, Delivered}
 use Rattle.reads_demands.specs.Instance.{origin, read, shortRead, piece₁, piece₂, piece₃, storeOf, rest₀, rest₁, rest₂, out, list, given, before, between, afterwards, opened, Premises}
-use Rattle.reads_demands.proofs.Whole.{demand3}
+use Rattle.reads_demands.proofs.Demand3.{demand3}
 
 -- after the first piece, after the refused take, and after the other opening
 abbrev t₁ : Table

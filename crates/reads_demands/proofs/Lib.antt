@@ -3,7 +3,7 @@ pub mod Tests
 pub mod PieceSizes
 pub mod CleanPieces
 pub mod OneTake
-pub mod TakenProof
+pub mod Demand2
 pub mod LawfulPieces
 pub mod Limits
 pub mod Steps
@@ -12,10 +12,10 @@ pub mod Runs
 pub mod Says
 pub mod Ends
 pub mod Frames
-pub mod Exactly
+pub mod Demand1
 pub mod WindowBytes
 pub mod Delivery
-pub mod Whole
+pub mod Demand3
 pub mod OneForm
 pub mod Instance
 pub mod Edges

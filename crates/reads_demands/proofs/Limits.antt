@@ -18,9 +18,9 @@ use Rattle.reads.specs.declared.table.Table.{Table}
 use Rattle.reads.proofs.TableLaws.{limit-fits}
 use Rattle.reads.specs.Tables.{tagLimit, newTable, stateAt, withState}
 
-pub either : (b : Bool) → (b ≡ true) ⊎ (b ≡ false)
-either true = inl refl
-either false = inr refl
+pub true-or-false : (b : Bool) → (b ≡ true) ⊎ (b ≡ false)
+true-or-false true = inl refl
+true-or-false false = inr refl
 
 -- the limit of a table's tags
 abbrev pub limitOf : Table → ℕ
@@ -67,7 +67,7 @@ module _ (t : Table) (u : ℕ) (x : State) where
       below-in (limitOf t) _ _ u h ∙ record-same (t .opened) (t .words) u x (omega arith) (l .of-set) (l .of-words) f
 
   pub state-with : Sized t → FitsIn x → (limitOf t ≤ u → x ≡ Free) → (v : ℕ) → stateAt (withState t u x) v ≡ pick (eqb u v) x (stateAt t v)
-  state-with l fit f v = go (either (eqb u v)) (either (ltb u (limitOf t)))
+  state-with l fit f v = go (true-or-false (eqb u v)) (true-or-false (ltb u (limitOf t)))
     where
       go : (eqb u v ≡ true) ⊎ (eqb u v ≡ false) → (ltb u (limitOf t) ≡ true) ⊎ (ltb u (limitOf t) ≡ false) → stateAt (withState t u x) v ≡ pick (eqb u v) x (stateAt t v)
       go (inl e) (inl h) = rw (e, ← (eqb-true u v e)) (state-with-same l (ltb-true u (limitOf t) h) fit)

@@ -21,13 +21,13 @@ use Rattle.reads_demands.proofs.Limits.{limitOf, Sized, state-over, sta
 use Rattle.reads_demands.proofs.Steps.{moved, next-moved}
 use Rattle.reads_demands.proofs.Accepted.{Fair, fair}
 use Rattle.reads_demands.proofs.Runs.{Sound, sound-new, sound-next, limit-of, fits-after}
-use Rattle.reads_demands.proofs.Whole.{demand3}
+use Rattle.reads_demands.proofs.Demand3.{demand3}
 
 module _ (o : Origin) where
-  holding-same : (n : ℕ) (r s : Records) → ((u : ℕ) → u < n → r u ≡ s u) → holding o n r ≡ holding o n s
+  holding-same : (n : ℕ) (r r₂ : Records) → ((u : ℕ) → u < n → r u ≡ r₂ u) → holding o n r ≡ holding o n r₂
   unfolding holding
-  holding-same zero r s h = refl
-  holding-same (suc n) r s h = rw (holding-same n r s (λ u k. h u (omega arith)), h n (omega arith))
+  holding-same zero r r₂ h = refl
+  holding-same (suc n) r r₂ h = rw (holding-same n r r₂ (λ u k. h u (omega arith)), h n (omega arith))
 
   holding-none : (n : ℕ) (r : Records) → ((u : ℕ) → u < n → r u ≡ Free) → holding o n r ≡ newTable o
   unfolding holding
@@ -62,10 +62,10 @@ module _ (o : Origin) where
   Formed t = t ≡ holding o (tagLimit (o .settings)) (stateAt t)
 
   with-formed : (t : Table) (u : ℕ) (x : State) → limitOf t ≡ tagLimit (o .settings) → Sized t → FitsIn x → (limitOf t ≤ u → x ≡ Free) → Formed t → Formed (withState t u x)
-  with-formed t u x l s f over e = go (ltb u (tagLimit (o .settings))) refl
+  with-formed t u x l size f over e = go (ltb u (tagLimit (o .settings))) refl
     where
       states : (v : ℕ) → stateAt (withState t u x) v ≡ pick (eqb u v) x (stateAt t v)
-      states = state-with t u x s f over
+      states = state-with t u x size f over
 
       put : withState t u x ≡ withState (holding o (tagLimit (o .settings)) (stateAt t)) u x
       put = ap (λ (y : Table). withState y u x) e
@@ -88,10 +88,10 @@ module _ (o : Origin) where
           ∙ (holding-freed (tagLimit (o .settings)) (stateAt t) u k ∙ holding-same (tagLimit (o .settings)) _ _ (λ v m. sym (states v ∙ kept k v))))
 
   moved-formed : (t : Table) (tag : ℕ) (c : Change) → limitOf t ≡ tagLimit (o .settings) → Sized t → Fair t tag c → Formed t → Formed (moved c t tag)
-  moved-formed t tag keeps l s f e = e
-  moved-formed t tag (opens q) l s f e = with-formed t tag _ l s (fits-after t tag (opens q) f) (λ h. let k : tag < limitOf t = f .within in absurd (omega arith)) e
-  moved-formed t tag (adds b) l s f e = with-formed t tag _ l s (fits-after t tag (adds b) f) (λ h. rw (state-over t tag h)) e
-  moved-formed t tag closes l s f e = with-formed t tag Free l s (fits-after t tag closes tt) (λ h. refl) e
+  moved-formed t tag keeps l size f e = e
+  moved-formed t tag (opens q) l size f e = with-formed t tag _ l size (fits-after t tag (opens q) f) (λ h. let k : tag < limitOf t = f .within in absurd (omega arith)) e
+  moved-formed t tag (adds b) l size f e = with-formed t tag _ l size (fits-after t tag (adds b) f) (λ h. rw (state-over t tag h)) e
+  moved-formed t tag closes l size f e = with-formed t tag Free l size (fits-after t tag closes tt) (λ h. refl) e
 
   next-formed : (t : Table) (c : Call) → Sound o t → Formed t → Formed (next t c)
   next-formed t c g e = rw (next-moved t c) (moved-formed t (eventTag (answered t c)) (eventChange (answered t c)) (limit-of g) (g .size) (fair t c) e)

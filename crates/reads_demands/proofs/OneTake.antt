@@ -39,7 +39,7 @@ use Rattle.reads_demands.proofs.CleanPieces.{CleanPiece, clean-bytes, b
 abbrev pub takes : TakeAnswer → Bool
 takes More = true
 takes Done = true
-takes (Failed s) = false
+takes (Failed status) = false
 takes Poisoned = false
 takes (Unread r) = false
 takes (Refused n) = false
@@ -63,10 +63,10 @@ number-taken : (n : ℕ) (x : TakeAnswer) → takes (numberOr n x) ≡ true → 
 number-taken zero x e = (refl, e)
 number-taken (suc n) x e = absurd (false≢true e)
 
-outcome-taken : (a b d : Bool) (s : ℕ) → takes (pick a (pick b Poisoned (pick d Done More)) (Failed s)) ≡ true → (a ≡ true) × (b ≡ false)
-outcome-taken true true d s e = absurd (false≢true e)
-outcome-taken true false d s e = (refl, refl)
-outcome-taken false b d s e = absurd (false≢true e)
+outcome-taken : (a b d : Bool) (status : ℕ) → takes (pick a (pick b Poisoned (pick d Done More)) (Failed status)) ≡ true → (a ≡ true) × (b ≡ false)
+outcome-taken true true d status e = absurd (false≢true e)
+outcome-taken true false d status e = (refl, refl)
+outcome-taken false b d status e = absurd (false≢true e)
 
 pub open-read : (x : State) → isOpen x ≡ true → x ≡ Open (readIn x)
 open-read Free e = absurd (false≢true e)
@@ -103,14 +103,14 @@ take-store t b store x e = store-by t (packetIn b) b store (validTable t) (first
 
 status-clean : (c : Piece) → succeeds c ≡ true → statusBad c ≡ false → (c .«with_data» ≡ true) × (c .header .«byte_count_modified» ≡ false)
 unfolding statusBad
-status-clean c s e =
+status-clean c ok e =
     let m = neither _ _ e in
-    let d : not (c .«with_data») ≡ false = rw s at (neither (eqb (c .header .status) 0b010) (pick (succeeds c) (not (c .«with_data»)) (c .«with_data»)) (m .1) .1) in
+    let d : not (c .«with_data») ≡ false = rw ok at (neither (eqb (c .header .status) 0b010) (pick (succeeds c) (not (c .«with_data»)) (c .«with_data»)) (m .1) .1) in
     (not-false _ d, m .0)
 
 clean-status : (c : Piece) → succeeds c ≡ true → c .«with_data» ≡ true → c .header .«byte_count_modified» ≡ false → statusBad c ≡ false
 unfolding statusBad
-clean-status c s d m = rw (s, d, m, eqb-true (c .header .status) 0b000 s)
+clean-status c ok d m = rw (ok, d, m, eqb-true (c .header .status) 0b000 ok)
 
 -- ---- More or Done, exactly when the packet continues
 
@@ -158,13 +158,13 @@ module _ (o : Origin) (x : State) (b : List ℕ) (room : ℕ) where
       let n = none-first (ownRows o x (packetIn b) room) none in
       rw (n, k .status, k .poisoned)
 
-chose-done : (a : Bool) → pick a Done More ≡ Done → a ≡ true
-chose-done true e = refl
-chose-done false e = absurd (more≢done e)
+done-when : (a : Bool) → pick a Done More ≡ Done → a ≡ true
+done-when true e = refl
+done-when false e = absurd (more≢done e)
 
-chose-more : (a : Bool) → pick a Done More ≡ More → a ≡ false
-chose-more true e = absurd (more≢done (sym e))
-chose-more false e = refl
+more-when : (a : Bool) → pick a Done More ≡ More → a ≡ false
+more-when true e = absurd (more≢done (sym e))
+more-when false e = refl
 
 module _ (t : Table) (b : List ℕ) (room : ℕ) where
   -- the packet continues the read that is open at its tag, in a valid table
@@ -195,10 +195,10 @@ module _ (t : Table) (b : List ℕ) (room : ℕ) where
 
   -- Done when n = L - p, otherwise More
   pub done-last : (m : Met) → takeCall t b room .answer ≡ Done → pieceIn b .length ≡ owedOf (m .read)
-  done-last m e = eqb-true _ _ (chose-done (eqb (pieceIn b .length) (owedOf (m .read))) (sym (continues (m .read) (m .valid) (m .continues)) ∙ e))
+  done-last m e = eqb-true _ _ (done-when (eqb (pieceIn b .length) (owedOf (m .read))) (sym (continues (m .read) (m .valid) (m .continues)) ∙ e))
 
   pub more-left : (m : Met) → takeCall t b room .answer ≡ More → pieceIn b .length < owedOf (m .read)
   more-left m e =
-      let ne : pieceIn b .length ≢ owedOf (m .read) = eqb-false _ _ (chose-more (eqb (pieceIn b .length) (owedOf (m .read))) (sym (continues (m .read) (m .valid) (m .continues)) ∙ e)) in
+      let ne : pieceIn b .length ≢ owedOf (m .read) = eqb-false _ _ (more-when (eqb (pieceIn b .length) (owedOf (m .read))) (sym (continues (m .read) (m .valid) (m .continues)) ∙ e)) in
       let l = legal-length (t .origin) (m .read) (pieceIn b) (m .continues .is-legal) in
       omega arith

@@ -49,23 +49,23 @@ with-data-type Cpl b e d = absurd (false≢true d)
 with-data-type CplD b e d = refl
 with-data-type Unlisted b e d = absurd (false≢true d)
 
-pub record Sized (s : Settings) (b : List ℕ) : Type 0 where
+pub record PieceSize (settings : Settings) (b : List ℕ) : Type 0 where
   pub payload : length (payloadIn b) ≡ 4 * pieceIn b .length
-  pub most : 4 * pieceIn b .length ≤ s .mps
+  pub most : 4 * pieceIn b .length ≤ settings .mps
 
 -- of rows 3 and 5
 cpld-sized : (mps : ℕ) (b : List ℕ) → length b ≡ bytesCalled CplD b → dataBytes CplD (accessOf (packetAt CplD b) .length) ≤ mps
     → (length (payloadOf (packetAt CplD b) b) ≡ 4 * pieceOf (packetAt CplD b) .length) × (4 * pieceOf (packetAt CplD b) .length ≤ mps)
 unfolding packetAt kindAt routeAt typeOf accessOf pieceOf payloadOf dataBytes bytesCalled
-cpld-sized mps b whole most = (length-take-le (4 * lengthAt b) (drop 12 b) (simp length-drop (omega arith)), most)
+cpld-sized mps b called most = (length-take-le (4 * lengthAt b) (drop 12 b) (simp length-drop (omega arith)), most)
 
-type-sized : (s : Settings) (b : List ℕ) → typeAt (byte b 0) ≡ CplD → first (readRows s b) ≡ 0 → Sized s b
-type-sized s b e z =
-    let n = first-none (readRows s b) refl z in
-    let whole = eqb-true (length b) (bytesCalled (typeAt (byte b 0)) b) (not-false _ (n .1 .1 .1 .1 .0)) in
-    let most = ltb-false (s .mps) (dataBytes (typeAt (byte b 0)) (accessOf (packetIn b) .length)) (n .1 .1 .1 .1 .1 .1 .0) in
-    let k = cpld-sized (s .mps) b (rw e at whole) (rw e at most) in
+type-sized : (settings : Settings) (b : List ℕ) → typeAt (byte b 0) ≡ CplD → first (readRows settings b) ≡ 0 → PieceSize settings b
+type-sized settings b e z =
+    let n = first-none (readRows settings b) refl z in
+    let called = eqb-true (length b) (bytesCalled (typeAt (byte b 0)) b) (not-false _ (n .1 .1 .1 .1 .0)) in
+    let most = ltb-false (settings .mps) (dataBytes (typeAt (byte b 0)) (accessOf (packetIn b) .length)) (n .1 .1 .1 .1 .1 .1 .0) in
+    let k = cpld-sized (settings .mps) b (rw e at called) (rw e at most) in
     record { payload = rw e (k .0); most = rw e (k .1) }
 
-pub sized : (s : Settings) (b : List ℕ) → first (readRows s b) ≡ 0 → isCompletion (packetIn b) ≡ true → pieceIn b .«with_data» ≡ true → Sized s b
-sized s b z c d = type-sized s b (with-data-type (typeAt (byte b 0)) b c d) z
+pub piece-size : (settings : Settings) (b : List ℕ) → first (readRows settings b) ≡ 0 → isCompletion (packetIn b) ≡ true → pieceIn b .«with_data» ≡ true → PieceSize settings b
+piece-size settings b z c d = type-sized settings b (with-data-type (typeAt (byte b 0)) b c d) z

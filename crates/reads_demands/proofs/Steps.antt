@@ -69,7 +69,7 @@ open-moved (OpenRefused n) t q tag = refl
 given-moved : (x : TakeAnswer) (t : Table) (b : List ℕ) → tableGiven x t (pieceIn b) ≡ moved (takeChange b x) t (pieceIn b .header .tag)
 given-moved More t b = refl
 given-moved Done t b = refl
-given-moved (Failed s) t b = refl
+given-moved (Failed status) t b = refl
 given-moved Poisoned t b = refl
 given-moved (Unread r) t b = refl
 given-moved (Refused n) t b = refl

@@ -17,12 +17,12 @@ use Rattle.reads_store.specs.Stores.{partAt, stored}
 use Rattle.reads_store.proofs.StoreLaws.{stored-before, stored-in, stored-after}
 use Rattle.tlp_read.specs.Read.{payloadIn}
 use Rattle.cuttings.specs.Lawful.{payloadsJoined}
-use Rattle.reads_demands.proofs.Limits.{either}
+use Rattle.reads_demands.proofs.Limits.{true-or-false}
 
-pub joined-end : (bs : List (List ℕ)) (b : List ℕ) → payloadsJoined (bs ++ (b ∷ [])) ≡ payloadsJoined bs ++ payloadIn b
+pub payloads-end : (bs : List (List ℕ)) (b : List ℕ) → payloadsJoined (bs ++ (b ∷ [])) ≡ payloadsJoined bs ++ payloadIn b
 unfolding payloadsJoined
-joined-end [] b = append-nil (payloadIn b)
-joined-end (x ∷ bs) b = rw (joined-end bs b, append-assoc (payloadIn x) (payloadsJoined bs) (payloadIn b))
+payloads-end [] b = append-nil (payloadIn b)
+payloads-end (x ∷ bs) b = rw (payloads-end bs b, append-assoc (payloadIn x) (payloadsJoined bs) (payloadIn b))
 
 -- byte k of the window when the first p doublewords, whose bytes are laid, came over what the store held at opening
 abbrev pub windowByte : ReadRequest → ℕ → List ℕ → List ℕ → ℕ → ℕ
@@ -33,7 +33,7 @@ module _ (q : ReadRequest) (p n : ℕ) (laid payload store opened : List ℕ) (w
   -- one piece more
   pub piece-bytes : (k : ℕ) → k < 4 * q .access .length → getD store (q .start + k) 0 ≡ windowByte q p laid opened k
       → getD (stored q p payload store) (q .start + k) 0 ≡ windowByte q (p + n) (laid ++ payload) opened k
-  piece-bytes k h old = go (either (ltb k (4 * p))) (either (ltb k (4 * (p + n))))
+  piece-bytes k h old = go (true-or-false (ltb k (4 * p))) (true-or-false (ltb k (4 * (p + n))))
     where
       go : (ltb k (4 * p) ≡ true) ⊎ (ltb k (4 * p) ≡ false) → (ltb k (4 * (p + n)) ≡ true) ⊎ (ltb k (4 * (p + n)) ≡ false)
           → getD (stored q p payload store) (q .start + k) 0 ≡ windowByte q (p + n) (laid ++ payload) opened k

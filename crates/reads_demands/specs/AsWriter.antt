@@ -14,5 +14,5 @@ use Rattle.reads_rules.specs.Requests.{requestPacket, requestRows}
 
 -- for every request, listed settings, "one 16-bit requester ID", a tag of 8 bits, and an output of space bytes
 abbrev pub AsWriter : Type 0
-AsWriter = (s : Settings) (requester tag : ℕ) (q : ReadRequest) (space : ℕ) → settingsListed s ≡ true → requester < 2 ^ 16 → tag < 2 ^ 8
-    → first (writeRows s (requestPacket requester tag q) 0 space) ≡ first (requestRows q ++ (row 12 (ltb space (sizeOf (requestPacket requester tag q))) ∷ []))
+AsWriter = (settings : Settings) (requester tag : ℕ) (q : ReadRequest) (space : ℕ) → settingsListed settings ≡ true → requester < 2 ^ 16 → tag < 2 ^ 8
+    → first (writeRows settings (requestPacket requester tag q) 0 space) ≡ first (requestRows q ++ (row 12 (ltb space (sizeOf (requestPacket requester tag q))) ∷ []))

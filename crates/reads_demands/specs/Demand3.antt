@@ -158,7 +158,7 @@ pub record TakeFrame (t : Table) (b store : List ℕ) : Type 0 where
   pub bytes : (i : ℕ) → Outside (stateAt t (pieceIn b .header .tag)) i → getD (takeStore t b store) i 0 ≡ getD store i 0
 
 -- "a refused one changes nothing": no call that answers a number does
-pub record Refusal (t : Table) (c : Call) : Type 0 where
+pub record Unchanged (t : Table) (c : Call) : Type 0 where
   pub table : next t c ≡ t
   pub store : left t c ≡ lent c
   pub out : outputLeft t c ≡ output c
@@ -182,7 +182,7 @@ pub record Demand3 (o : Origin) (cs : List Call) : Type 0 where
   pub ends : (before rest : List Call) (b store : List ℕ) → cs ≡ before ++ (taking b store ∷ rest)
       → (takeCall (run (newTable o) before) b (length store) .answer ≡ Done) ↔ Ends o (answersOf o before) b store
   pub frame : (before rest : List Call) (b store : List ℕ) → cs ≡ before ++ (taking b store ∷ rest) → TakeFrame (run (newTable o) before) b store
-  pub refusal : (before rest : List Call) (c : Call) → cs ≡ before ++ (c ∷ rest) → 0 < eventNumber (answered (run (newTable o) before) c) → Refusal (run (newTable o) before) c
+  pub unchanged : (before rest : List Call) (c : Call) → cs ≡ before ++ (c ∷ rest) → 0 < eventNumber (answered (run (newTable o) before) c) → Unchanged (run (newTable o) before) c
 
 -- the theorem
 abbrev pub Demand3Holds : Type 0

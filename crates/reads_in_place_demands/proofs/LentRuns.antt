@@ -10,7 +10,7 @@ use Rattle.reads.specs.declared.table.Withdrawal.{Withdrawal}
 use Rattle.reads.specs.Tables.{stateAt}
 use Rattle.reads_demands.specs.History.{Call, opening, taking, withdrawing, asking, Event, openEvent, takeEvent, withdrawEvent, owedEvent, History, recordsOf, answersOf}
 use Rattle.reads_demands.specs.Demand3.{next, answered, left, outputLeft, run, answers}
-use Rattle.reads_demands.proofs.Whole.{demand3}
+use Rattle.reads_demands.proofs.Demand3.{demand3}
 use Rattle.reads_in_place_demands.specs.LentRuns.{Leaves, opens, takes, withdraws, asks, Lent, ends, calls, AsCore, LeavesAsCore, LentRuns, LentAsCore, LentDemand3Holds}
 
 as-core : {t t′ : Table} {c : Call} {e : Event} {store : Option (List ℕ)} {out : List ℕ} → Leaves t c e t′ store out → AsCore t c e t′ store out

@@ -14,19 +14,19 @@ use Rattle.cuttings.specs.Rows.{rowFrom, lawfulRow, startingWith, rowsFr
 
 -- ---- what is in a list that is joined, and in one whose rows all begin with n
 
-in-joined : (ns : List ℕ) (xs ys : List (List ℕ)) → Member ns (xs ++ ys) → Member ns xs ⊎ Member ns ys
-in-joined ns [] ys m = inr m
-in-joined ns (x ∷ xs) ys (inl e) = inl (inl e)
-in-joined ns (x ∷ xs) ys (inr m) = ⊎-elim (λ h. inl (inr h)) (λ h. inr h) (in-joined ns xs ys m)
+in-append : (ns : List ℕ) (xs ys : List (List ℕ)) → Member ns (xs ++ ys) → Member ns xs ⊎ Member ns ys
+in-append ns [] ys m = inr m
+in-append ns (x ∷ xs) ys (inl e) = inl (inl e)
+in-append ns (x ∷ xs) ys (inr m) = ⊎-elim (λ h. inl (inr h)) (λ h. inr h) (in-append ns xs ys m)
 
-joined-left : (ns : List ℕ) (xs ys : List (List ℕ)) → Member ns xs → Member ns (xs ++ ys)
-joined-left ns [] ys m = absurd m
-joined-left ns (x ∷ xs) ys (inl e) = inl e
-joined-left ns (x ∷ xs) ys (inr m) = inr (joined-left ns xs ys m)
+append-left : (ns : List ℕ) (xs ys : List (List ℕ)) → Member ns xs → Member ns (xs ++ ys)
+append-left ns [] ys m = absurd m
+append-left ns (x ∷ xs) ys (inl e) = inl e
+append-left ns (x ∷ xs) ys (inr m) = inr (append-left ns xs ys m)
 
-joined-right : (ns : List ℕ) (xs ys : List (List ℕ)) → Member ns ys → Member ns (xs ++ ys)
-joined-right ns [] ys m = m
-joined-right ns (x ∷ xs) ys m = inr (joined-right ns xs ys m)
+append-right : (ns : List ℕ) (xs ys : List (List ℕ)) → Member ns ys → Member ns (xs ++ ys)
+append-right ns [] ys m = m
+append-right ns (x ∷ xs) ys m = inr (append-right ns xs ys m)
 
 in-mapped : (n : ℕ) (ns : List ℕ) (xs : List (List ℕ)) → Member ns (map (λ ms. n ∷ ms) xs) → (ms : List ℕ) × ((ns ≡ n ∷ ms) × Member ms xs)
 in-mapped n ns [] m = absurd m
@@ -42,46 +42,46 @@ mapped n ms (x ∷ xs) (inr m) = inr (mapped n ms xs m)
 
 -- ---- the rows that begin with a length that stands
 
-record Begins (stands : ℕ → Bool) (after : ℕ → List (List ℕ)) (most : ℕ) (ns : List ℕ) : Type 0 where
+record Begins (stands : ℕ → Bool) (tails : ℕ → List (List ℕ)) (most : ℕ) (ns : List ℕ) : Type 0 where
   length : ℕ
   rest : List ℕ
   is : ns ≡ length ∷ rest
   some : 1 ≤ length
   fits : length ≤ most
   allowed : stands length ≡ true
-  follows : Member rest (after length)
+  follows : Member rest (tails length)
 
-module _ (stands : ℕ → Bool) (after : ℕ → List (List ℕ)) where
-  grown : (n : ℕ) (ns : List ℕ) → Begins stands after n ns → Begins stands after (suc n) ns
+module _ (stands : ℕ → Bool) (tails : ℕ → List (List ℕ)) where
+  grown : (n : ℕ) (ns : List ℕ) → Begins stands tails n ns → Begins stands tails (suc n) ns
   grown n ns b =
       record { length = b .length; rest = b .rest; is = b .is; some = b .some; fits = omega (arith, b .fits); allowed = b .allowed; follows = b .follows }
 
-  begins : (most : ℕ) (ns : List ℕ) → Member ns (startingWith stands after most) → Begins stands after most ns
+  begins : (most : ℕ) (ns : List ℕ) → Member ns (startingWith stands tails most) → Begins stands tails most ns
   begins zero ns m = absurd m
   begins (suc n) ns m = go (begins n ns) (stands (suc n)) refl m
     where
-      go : (Member ns (startingWith stands after n) → Begins stands after n ns) → (b : Bool) → stands (suc n) ≡ b
-          → Member ns (pick b (map (λ ms. suc n ∷ ms) (after (suc n))) [] ++ startingWith stands after n) → Begins stands after (suc n) ns
+      go : (Member ns (startingWith stands tails n) → Begins stands tails n ns) → (b : Bool) → stands (suc n) ≡ b
+          → Member ns (pick b (map (λ ms. suc n ∷ ms) (tails (suc n))) [] ++ startingWith stands tails n) → Begins stands tails (suc n) ns
       go f false e h = grown n ns (f h)
       go f true e h =
           ⊎-elim
-          (λ k. let r = in-mapped (suc n) ns (after (suc n)) k in
+          (λ k. let r = in-mapped (suc n) ns (tails (suc n)) k in
           record { length = suc n; rest = r .0; is = r .1 .0; some = omega arith; fits = omega arith; allowed = e; follows = r .1 .1 })
           (λ k. grown n ns (f k))
-          (in-joined ns (map (λ ms. suc n ∷ ms) (after (suc n))) (startingWith stands after n) h)
+          (in-append ns (map (λ ms. suc n ∷ ms) (tails (suc n))) (startingWith stands tails n) h)
 
-  listed : (most n : ℕ) (ms : List ℕ) → 1 ≤ n → n ≤ most → stands n ≡ true → Member ms (after n) → Member (n ∷ ms) (startingWith stands after most)
-  listed zero n ms s l e m = absurd (omega arith)
-  listed (suc k) n ms s l e m = go (λ h. listed k n ms s h e m) (eqb n (suc k)) refl
+  listed : (most n : ℕ) (ms : List ℕ) → 1 ≤ n → n ≤ most → stands n ≡ true → Member ms (tails n) → Member (n ∷ ms) (startingWith stands tails most)
+  listed zero n ms some l e m = absurd (omega arith)
+  listed (suc k) n ms some l e m = go (λ h. listed k n ms some h e m) (eqb n (suc k)) refl
     where
-      go : (n ≤ k → Member (n ∷ ms) (startingWith stands after k)) → (b : Bool) → eqb n (suc k) ≡ b → Member (n ∷ ms) (startingWith stands after (suc k))
+      go : (n ≤ k → Member (n ∷ ms) (startingWith stands tails k)) → (b : Bool) → eqb n (suc k) ≡ b → Member (n ∷ ms) (startingWith stands tails (suc k))
       go f true q =
           let z : n ≡ suc k = eqb-true n (suc k) q in
           let h : stands (suc k) ≡ true = rw (← z) e in
-          let j : Member ms (after (suc k)) = rw (← z) m in
-          rw (z, h) (joined-left (suc k ∷ ms) (map (λ ms. suc k ∷ ms) (after (suc k))) (startingWith stands after k) (mapped (suc k) ms (after (suc k)) j))
+          let j : Member ms (tails (suc k)) = rw (← z) m in
+          rw (z, h) (append-left (suc k ∷ ms) (map (λ ms. suc k ∷ ms) (tails (suc k))) (startingWith stands tails k) (mapped (suc k) ms (tails (suc k)) j))
       go f false q =
-          joined-right (n ∷ ms) (pick (stands (suc k)) (map (λ ms. suc k ∷ ms) (after (suc k))) []) (startingWith stands after k)
+          append-right (n ∷ ms) (pick (stands (suc k)) (map (λ ms. suc k ∷ ms) (tails (suc k))) []) (startingWith stands tails k)
           (f (let z = eqb-false n (suc k) q in omega (arith, z)))
 
 -- ---- lawful rows
@@ -146,9 +146,9 @@ module _ (a : Access) (mps rcb : ℕ) where
   all-listed (suc k) p [] l e = rw e (inl refl)
   all-listed (suc k) p (n ∷ ns) l e =
       let h = row-begins p n ns e in
-      let s = stands-size p n (h .0) in
-      rw (ne-eqb p (a .length) (λ z. omega (arith, s .0, s .1)))
-      (listed (stands p) (λ n. rowsFrom k a mps rcb (p + n)) (a .length - p) n ns (s .0) (s .1) (h .0) (all-listed k (p + n) ns (omega (arith, s .0, s .1)) (h .1)))
+      let size = stands-size p n (h .0) in
+      rw (ne-eqb p (a .length) (λ z. omega (arith, size .0, size .1)))
+      (listed (stands p) (λ n. rowsFrom k a mps rcb (p + n)) (a .length - p) n ns (size .0) (size .1) (h .0) (all-listed k (p + n) ns (omega (arith, size .0, size .1)) (h .1)))
 
 pub cuttings-exact : CuttingsExact
 unfolding cuttings lawfulRow

@@ -17,9 +17,9 @@ use Rattle.reads.specs.TakeCall.{takeCall}
 use Rattle.reads_demands.specs.Demand2.{Continues, TakenExactly}
 use Rattle.reads_demands.proofs.OneTake.{takes, Met, meets, continues, done-last}
 
-chosen : (a : Bool) (x : TakeAnswer) → x ≡ pick a Done More → (x ≡ More) ⊎ (x ≡ Done)
-chosen true x e = inr e
-chosen false x e = inl e
+more-or-done : (a : Bool) (x : TakeAnswer) → x ≡ pick a Done More → (x ≡ More) ⊎ (x ≡ Done)
+more-or-done true x e = inr e
+more-or-done false x e = inl e
 
 module _ (t : Table) (b : List ℕ) (room : ℕ) where
   met : Met t b room → (r : Read) × Continues t b room r
@@ -36,6 +36,6 @@ module _ (t : Table) (b : List ℕ) (room : ℕ) where
 
 pub taken-exactly : TakenExactly
 taken-exactly t b room v = record {
-  taken = (some-read t b room, λ k. chosen (eqb (pieceIn b .length) (owedOf (k .0))) _ (continues t b room (k .0) v (k .1)));
+  taken = (some-read t b room, λ k. more-or-done (eqb (pieceIn b .length) (owedOf (k .0))) _ (continues t b room (k .0) v (k .1)));
   done = (is-done t b room, λ k. continues t b room (k .0) v (k .1 .0) ∙ rw (eq-eqb _ _ (k .1 .1)));
 }

@@ -4,7 +4,7 @@ use Rattle.reads_demands.specs.Demand3.{run, Demand3Holds}
 use Rattle.reads_demands.proofs.Runs.{sound-valid}
 use Rattle.reads_demands.proofs.Says.{follows, says}
 use Rattle.reads_demands.proofs.Ends.{ends}
-use Rattle.reads_demands.proofs.Frames.{frame, refusal}
+use Rattle.reads_demands.proofs.Frames.{frame, unchanged}
 use Rattle.reads_demands.proofs.Delivery.{delivery}
 
 pub demand3 : Demand3Holds
@@ -17,5 +17,5 @@ demand3 o cs l =
       delivery = λ before rest q tag store₀ out mid b store e a c u w. delivery (follows o l before .sound) q tag store₀ out mid b store a c u w;
       ends = λ before rest b store e. ends o l before b store;
       frame = λ before rest b store e. frame (run (newTable o) before) b store;
-      refusal = λ before rest c e n. refusal (run (newTable o) before) c n;
+      unchanged = λ before rest c e n. unchanged (run (newTable o) before) c n;
     }
