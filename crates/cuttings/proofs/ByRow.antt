@@ -6,7 +6,6 @@ use mathlib.Core.List.{List, [], _∷_}
 use lib.Dec.{eqb, leb}
 use Rattle.byte_enables.specs.declared.Access.{Access}
 use Rattle.reads_rules.specs.declared.request.ReadRequest.{ReadRequest}
-use Rattle.reads_rules.specs.declared.piece.Piece.{Piece}
 use Rattle.reads_rules.specs.declared.origin.Origin.{Origin}
 use Rattle.reads_rules.specs.Pieces.{pieceIn}
 use Rattle.reads_rules.specs.Continuations.{byteCountAt, lowerAddressAt, cutAllowed, legal}

@@ -37,4 +37,5 @@ lawfulByRow o tag q bs =
 
 -- the theorem
 abbrev pub ByTheRow : Type 0
-ByTheRow = (o : Origin) (tag : ℕ) (q : ReadRequest) (bs : List (List ℕ)) → lawfulCutting o tag q bs ≡ lawfulByRow o tag q bs
+ByTheRow = (o : Origin) (tag : ℕ) (q : ReadRequest) (bs : List (List ℕ))
+    → lawfulCutting o tag q bs ≡ lawfulByRow o tag q bs

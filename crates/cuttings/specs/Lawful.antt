@@ -1,6 +1,5 @@
--- Document 01: "A lawful cutting is a row of clean pieces, each legal in turn, none over MPS, ending at L." A piece is the
--- bytes of a packet. Demand 3 cites `lawfulCutting` and `payloadsJoined`; to be believed are these and what they are made of,
--- that is all of this file.
+-- Document 01: "A lawful cutting is a row of clean pieces, each legal in turn, none over MPS, ending at L." A piece is
+-- the bytes of a packet. Demand 3 cites `lawfulCutting` and `payloadsJoined`: to be believed is all of this file.
 use Prim.Native.Nat.{ℕ, _+_, _*_}
 use mathlib.Core.Bool.{Bool, _&&_}
 use mathlib.Core.List.{List, [], _∷_, _++_}

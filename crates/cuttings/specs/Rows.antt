@@ -1,4 +1,5 @@
--- Rows of piece lengths, in doublewords, and the list of all that are lawful for a read.
+-- Rows of piece lengths, in doublewords. P1 to P3 cite `cuttings`, the list of all rows that are lawful for a read: to
+-- be believed is `lawfulRow`, since that the list holds these rows and no others is the theorem `CuttingsExact`.
 use Prim.Native.Nat.{ℕ, zero, suc, _+_, _-_, _*_}
 use mathlib.Core.Path.{_≡_}
 use mathlib.Core.Logic.{_⊎_, _↔_}
@@ -20,7 +21,8 @@ lawfulRow a mps rcb ns = rowFrom a mps rcb 0 ns
 -- the rows that begin with a length from most down to 1 that stands, each followed by what may follow it
 abbrev pub startingWith : (ℕ → Bool) → (ℕ → List (List ℕ)) → ℕ → List (List ℕ)
 startingWith stands tails zero = []
-startingWith stands tails (suc n) = pick (stands (suc n)) (map (λ ns. suc n ∷ ns) (tails (suc n))) [] ++ startingWith stands tails n
+startingWith stands tails (suc n) =
+    pick (stands (suc n)) (map (λ ns. suc n ∷ ns) (tails (suc n))) [] ++ startingWith stands tails n
 
 -- the rows from doubleword p on; no more than k pieces
 unfoldable pub rowsFrom : ℕ → Access → ℕ → ℕ → ℕ → List (List ℕ)
@@ -33,12 +35,11 @@ rowsFrom (suc k) a mps rcb p =
 unfoldable pub cuttings : Access → ℕ → ℕ → List (List ℕ)
 cuttings a mps rcb = rowsFrom (a .length) a mps rcb 0
 
--- ---- what is proved in proofs/
-
 abbrev pub Member : List ℕ → List (List ℕ) → Type 0
 Member ns [] = ⊥
 Member ns (ms ∷ mss) = (ns ≡ ms) ⊎ Member ns mss
 
--- the list holds exactly the lawful rows
+-- the theorem: the list holds exactly the lawful rows
 abbrev pub CuttingsExact : Type 0
-CuttingsExact = (a : Access) (mps rcb : ℕ) (ns : List ℕ) → Member ns (cuttings a mps rcb) ↔ (lawfulRow a mps rcb ns ≡ true)
+CuttingsExact = (a : Access) (mps rcb : ℕ) (ns : List ℕ)
+    → Member ns (cuttings a mps rcb) ↔ (lawfulRow a mps rcb ns ≡ true)

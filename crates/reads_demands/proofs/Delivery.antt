@@ -1,4 +1,5 @@
--- Part of demand 3: the pieces of a lawful cutting that stand after their opening are taken, "whatever calls fall between", and their bytes stand in the window.
+-- Part of demand 3: the pieces of a lawful cutting that stand after their opening are taken, "whatever calls fall
+-- between", and their bytes stand in the window.
 use Prim.Native.Nat.{ℕ, zero, suc, _+_, _-_, _*_, _≤_, _<_, zero-le}
 use mathlib.Core.Path.{_≡_, refl, sym, _∙_}
 use mathlib.Core.Logic.{_⊎_, inl, inr, _≢_}

@@ -1,5 +1,5 @@
--- Demand 3: "A take answers Done exactly when its tag is open, the tag's pieces taken since that opening and then its own are a lawful cutting, and its
--- store .. can hold the window."
+-- Demand 3: "A take answers Done exactly when its tag is open, the tag's pieces taken since that opening and then its
+-- own are a lawful cutting, and its store .. can hold the window."
 use Prim.Native.Nat.{ℕ, _+_, _-_}
 use mathlib.Core.Path.{_≡_, refl, sym, ap, _∙_}
 use mathlib.Core.Logic.{_↔_}

@@ -1,4 +1,5 @@
--- "No take changes another tag's record or a byte outside its read's window"; "a refused one changes nothing". Of every table.
+-- "No take changes another tag's record or a byte outside its read's window"; "a refused one changes nothing". Of every
+-- table.
 use Prim.Native.Nat.{ℕ, _+_, _-_, _≤_, _<_}
 use mathlib.Core.Path.{_≡_, refl, ap, _∙_}
 use mathlib.Core.Logic.{_⊎_, inl, inr, _≢_}

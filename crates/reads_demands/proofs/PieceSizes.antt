@@ -1,4 +1,5 @@
--- What the reader says of a completion with data: its type, four bytes of payload for each doubleword, and no more data than MPS.
+-- What the reader says of a completion with data: its type, four bytes of payload for each doubleword, and no more data
+-- than MPS.
 use Prim.Native.Nat.{ℕ, _*_, _^_, _≤_}
 use mathlib.Core.Path.{_≡_, refl}
 use mathlib.Core.Bool.{Bool, true, false, false≢true}

@@ -3,7 +3,7 @@ use Prim.Native.Nat.{ℕ, _+_, _<_}
 use mathlib.Core.Path.{_≡_, refl, sym, ap, _∙_}
 use mathlib.Core.Logic.{_⊎_, inl, inr, _≢_}
 use mathlib.Core.Bool.{Bool, true, false, and-comm, and-eq-true-iff}
-use mathlib.Core.List.{List, [], _∷_, _++_}
+use mathlib.Core.List.{List, _++_}
 use native.Mathlib.Omega.{arith}
 use lib.Dec.{eqb, ltb}
 use borrow.Author.Tests.{eqb-true, eqb-false, ne-eqb, lt-ltb}
@@ -27,7 +27,7 @@ use Rattle.reads.specs.declared.table.Table.{Table}
 use Rattle.reads.specs.TakeCall.{advanced}
 use Rattle.reads.specs.Tables.{tagLimit, newTable, stateAt, withState, validTable}
 use Rattle.reads_demands.specs.History.{Call, Event, Change, keeps, opens, adds, closes, eventTag, eventChange, change}
-use Rattle.reads_demands.specs.Demand3.{next, answered, run}
+use Rattle.reads_demands.specs.Demand3.{next, answered}
 use Rattle.reads_demands.proofs.Limits.{true-or-false, limitOf, Sized, state-over, state-new, state-fits, size-new, size-with, state-with}
 use Rattle.reads_demands.proofs.Steps.{afterChange, moved, next-moved}
 use Rattle.reads_demands.proofs.Accepted.{FairAdd, Fair, fair, fair-at}
@@ -174,11 +174,6 @@ module _ {o : Origin} {t : Table} (g : Sound o t) where
 
       tag : ℕ
       tag = eventTag (answered t c)
-
-pub sound-run : {o : Origin} {t : Table} → Sound o t → (cs : List Call) → Sound o (run t cs)
-unfolding run
-sound-run g [] = g
-sound-run g (c ∷ cs) = sound-run (sound-next g c) cs
 
 -- ---- a reached table is valid
 

@@ -1,5 +1,6 @@
--- Demand 2's last sentence: "A successful completion is taken exactly when it legally continues an open read, is clean, and the lent store, within
--- its limit, can hold the window." More and Done follow from n and L - p.
+-- Demand 2's last sentence: "A successful completion is taken exactly when it legally continues an open read, is clean,
+-- and the lent store, within its limit, can hold the window." More and Done follow from n and L - p. To be believed is
+-- all of this file; the theorem is `TakenExactly`.
 use Prim.Native.Nat.{ℕ}
 use mathlib.Core.Path.{_≡_}
 use mathlib.Core.Logic.{_⊎_, _↔_}
@@ -25,7 +26,8 @@ pub record Continues (t : Table) (b : List ℕ) (room : ℕ) (r : Read) : Type 0
   pub holds : holdsWindow (r .request) room ≡ true
 
 pub record Demand2 (t : Table) (b : List ℕ) (room : ℕ) : Type 0 where
-  pub taken : ((takeCall t b room .answer ≡ More) ⊎ (takeCall t b room .answer ≡ Done)) ↔ ((r : Read) × Continues t b room r)
+  pub taken : ((takeCall t b room .answer ≡ More) ⊎ (takeCall t b room .answer ≡ Done))
+      ↔ ((r : Read) × Continues t b room r)
   pub done : (takeCall t b room .answer ≡ Done) ↔ ((r : Read) × (Continues t b room r × (pieceIn b .length ≡ owedOf r)))
 
 -- of every valid table; those reached from a new one with listed settings are (Demand3)

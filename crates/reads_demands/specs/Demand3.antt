@@ -1,8 +1,10 @@
--- Demand 3: one claim about every list of calls from a new table, each call given the table as the last one left it.
+-- Demand 3: one claim about every list of calls "from a new table, each call given the table as the last one left it".
+-- To be believed are this file and History; the theorem is `Demand3Holds`, and Instance is a list for which its
+-- premises hold.
 use Prim.Native.Nat.{ℕ, _+_, _*_, _≤_, _<_}
 use mathlib.Core.Path.{_≡_}
 use mathlib.Core.Logic.{_⊎_, _≢_, _↔_}
-use mathlib.Core.Bool.{Bool, true}
+use mathlib.Core.Bool.{true}
 use mathlib.Core.Option.{Option, none, some}
 use mathlib.Core.List.{List, [], _∷_, _++_}
 use lib.ListN.{length, getD}
@@ -12,7 +14,6 @@ use Rattle.tlp.specs.Settings.{settingsListed}
 use Rattle.reads_rules.specs.declared.request.ReadRequest.{ReadRequest}
 use Rattle.reads_rules.specs.declared.origin.Origin.{Origin}
 use Rattle.reads_rules.specs.Windows.{windowEnd, holdsWindow}
-use Rattle.reads_rules.specs.Pieces.{pieceIn}
 use Rattle.reads_slots.specs.declared.State.{State}
 use Rattle.reads_slots.specs.declared.State.the-variants.{Free, Open}
 use Rattle.reads.specs.declared.table.Table.{Table}
@@ -23,7 +24,9 @@ use Rattle.reads.specs.OpenCall.{openCall, openOut}
 use Rattle.reads.specs.TakeCall.{takeCall, takeStore}
 use Rattle.reads.specs.OtherCalls.{withdrawCall, owedCall}
 use Rattle.cuttings.specs.Lawful.{lawfulCutting, payloadsJoined}
-use Rattle.reads_demands.specs.History.{Call, opening, taking, withdrawing, asking, Event, openEvent, takeEvent, withdrawEvent, owedEvent, History, openRequest, takenPieces, recordsOf, answersOf}
+use Rattle.reads_demands.specs.History.{Call, opening, taking, withdrawing, asking}
+use Rattle.reads_demands.specs.History.{Event, openEvent, takeEvent, withdrawEvent, owedEvent}
+use Rattle.reads_demands.specs.History.{History, pieceTag, openRequest, takenPieces, recordsOf, answersOf}
 
 -- ---- the table's step: the definitions that the calls of crate reads are equal to
 
@@ -82,6 +85,10 @@ unfoldable pub answers : Table → History → List Call → History
 answers t h [] = h
 answers t h (c ∷ cs) = answers (next t c) (answered t c ∷ h) cs
 
+-- a table "reached from a new one"
+abbrev pub reached : Origin → List Call → Table
+reached o cs = run (newTable o) cs
+
 -- ---- the stretch from an opening to its last piece: the pieces before the last, and the calls that fall between
 pub data Item : Type 0 where
   other : Call → Item
@@ -103,7 +110,7 @@ pieces (piece b store ∷ is) = b ∷ pieces is
 -- "no other completion of the tag is accepted, the tag is not withdrawn"
 abbrev pub Harmless : ℕ → Event → Type 0
 Harmless tag (openEvent q u store out x) = Unit {0}
-Harmless tag (takeEvent b store x) = pieceIn b .header .tag ≡ tag → 0 < takeNumber x
+Harmless tag (takeEvent b store x) = pieceTag b ≡ tag → 0 < takeNumber x
 Harmless tag (withdrawEvent u x) = u ≡ tag → 0 < withdrawNumber x
 Harmless tag (owedEvent x) = Unit {0}
 
@@ -112,10 +119,13 @@ Undisturbed tag t [] = Unit {0}
 Undisturbed tag t (other c ∷ is) = Harmless tag (answered t c) × Undisturbed tag (next t c) is
 Undisturbed tag t (piece b store ∷ is) = Undisturbed tag (next t (taking b store)) is
 
--- "The same store means: .. each open and take is lent one of equal length, with the window's bytes as the last one left them."
+-- "The same store means: from opening to last piece, each open and take is lent one of equal length, with the window's
+-- bytes as the last one left them."
 abbrev pub SameWindow : ReadRequest → List ℕ → Option (List ℕ) → Type 0
 SameWindow q last none = Unit {0}
-SameWindow q last (some store) = (length store ≡ length last) × ((k : ℕ) → k < 4 * q .access .length → getD store (q .start + k) 0 ≡ getD last (q .start + k) 0)
+SameWindow q last (some store) =
+    (length store ≡ length last)
+    × ((k : ℕ) → k < 4 * q .access .length → getD store (q .start + k) 0 ≡ getD last (q .start + k) 0)
 
 abbrev pub orLast : List ℕ → Option (List ℕ) → List ℕ
 orLast last none = last
@@ -131,19 +141,27 @@ AllMore t [] = Unit {0}
 AllMore t (other c ∷ is) = AllMore (next t c) is
 AllMore t (piece b store ∷ is) = (takeCall t b (length store) .answer ≡ More) × AllMore (next t (taking b store)) is
 
--- "every piece is taken. After the last, each enabled byte holds the answer, each other byte of the window is as at opening, and the tag is free."
-pub record Delivered (q : ReadRequest) (tag : ℕ) (t : Table) (store₀ : List ℕ) (mid : List Item) (b store : List ℕ) : Type 0 where
+-- byte k of the window after the last piece
+abbrev pub deliveredByte : ReadRequest → List ℕ → List (List ℕ) → ℕ → ℕ
+deliveredByte q store₀ bs k = pick (enabled (q .access) k) (getD (payloadsJoined bs) k 0) (getD store₀ (q .start + k) 0)
+
+-- "every piece is taken. After the last, each enabled byte holds the answer, each other byte of the window is as at
+-- opening, and the tag is free."
+pub record Delivered (q : ReadRequest) (tag : ℕ) (t : Table) (store₀ : List ℕ) (mid : List Item) (b store : List ℕ)
+    : Type 0 where
   pub taken : AllMore t mid
   pub done : takeCall (run t (calls mid)) b (length store) .answer ≡ Done
   pub free : stateAt (next (run t (calls mid)) (taking b store)) tag ≡ Free
   pub bytes : (k : ℕ) → k < 4 * q .access .length
-      → getD (takeStore (run t (calls mid)) b store) (q .start + k) 0 ≡ pick (enabled (q .access) k) (getD (payloadsJoined (pieces mid ++ (b ∷ []))) k 0) (getD store₀ (q .start + k) 0)
+      → getD (takeStore (run t (calls mid)) b store) (q .start + k) 0
+      ≡ deliveredByte q store₀ (pieces mid ++ (b ∷ [])) k
 
--- "its tag is open, the tag's pieces taken since that opening and then its own are a lawful cutting, and its store, within its limit, can hold the window"
+-- "its tag is open, the tag's pieces taken since that opening and then its own are a lawful cutting, and its store,
+-- within its limit, can hold the window"
 pub record Ends (o : Origin) (h : History) (b store : List ℕ) : Type 0 where
   pub request : ReadRequest
-  pub is-open : openRequest (pieceIn b .header .tag) h ≡ some request
-  pub cutting : lawfulCutting o (pieceIn b .header .tag) request (takenPieces (pieceIn b .header .tag) h ++ (b ∷ [])) ≡ true
+  pub is-open : openRequest (pieceTag b) h ≡ some request
+  pub cutting : lawfulCutting o (pieceTag b) request (takenPieces (pieceTag b) h ++ (b ∷ [])) ≡ true
   pub holds : holdsWindow request (length store) ≡ true
 
 -- a byte outside the window of a tag's read
@@ -153,9 +171,9 @@ Outside (Open r) i = (i < r .request .start) ⊎ (windowEnd (r .request) ≤ i)
 
 -- "No take changes another tag's record or a byte outside its read's window"
 pub record TakeFrame (t : Table) (b store : List ℕ) : Type 0 where
-  pub others : (u : ℕ) → pieceIn b .header .tag ≢ u → stateAt (next t (taking b store)) u ≡ stateAt t u
+  pub others : (u : ℕ) → pieceTag b ≢ u → stateAt (next t (taking b store)) u ≡ stateAt t u
   pub size : length (takeStore t b store) ≡ length store
-  pub bytes : (i : ℕ) → Outside (stateAt t (pieceIn b .header .tag)) i → getD (takeStore t b store) i 0 ≡ getD store i 0
+  pub bytes : (i : ℕ) → Outside (stateAt t (pieceTag b)) i → getD (takeStore t b store) i 0 ≡ getD store i 0
 
 -- "a refused one changes nothing": no call that answers a number does
 pub record Unchanged (t : Table) (c : Call) : Type 0 where
@@ -166,23 +184,28 @@ pub record Unchanged (t : Table) (c : Call) : Type 0 where
 pub record Demand3 (o : Origin) (cs : List Call) : Type 0 where
   -- "each answer, and after the list each tag's record, is what document 01 makes of the calls alone"
   pub says : answers (newTable o) [] cs ≡ answersOf o cs
-  pub records : (tag : ℕ) → stateAt (run (newTable o) cs) tag ≡ recordsOf (answersOf o cs) tag
+  pub records : (tag : ℕ) → stateAt (reached o cs) tag ≡ recordsOf (answersOf o cs) tag
   -- "both fixed for its life"; the table stays valid, after every list and so before every call
-  pub origin : run (newTable o) cs .origin ≡ o
-  pub valid : validTable (run (newTable o) cs) ≡ true
-  -- "Let the pieces of any lawful cutting for a read opened in the list stand there after that opening, in address order, whatever calls fall between."
-  pub delivery : (before rest : List Call) (q : ReadRequest) (tag : ℕ) (store₀ out : List ℕ) (mid : List Item) (b store : List ℕ)
+  pub origin : reached o cs .origin ≡ o
+  pub valid : validTable (reached o cs) ≡ true
+  -- "Let the pieces of any lawful cutting for a read opened in the list stand there after that opening, in address
+  -- order, whatever calls fall between."
+  pub delivery : (before rest : List Call) (q : ReadRequest) (tag : ℕ) (store₀ out : List ℕ)
+      → (mid : List Item) (b store : List ℕ)
       → cs ≡ before ++ (opening q tag store₀ out ∷ (calls mid ++ (taking b store ∷ rest)))
-      → openNumber (openCall (run (newTable o) before) q tag (length store₀) (length out) .answer) ≡ 0
+      → openNumber (openCall (reached o before) q tag (length store₀) (length out) .answer) ≡ 0
       → lawfulCutting o tag q (pieces mid ++ (b ∷ [])) ≡ true
-      → Undisturbed tag (next (run (newTable o) before) (opening q tag store₀ out)) mid
-      → SameStore q (next (run (newTable o) before) (opening q tag store₀ out)) store₀ (calls mid ++ (taking b store ∷ []))
-      → Delivered q tag (next (run (newTable o) before) (opening q tag store₀ out)) store₀ mid b store
-  -- "A take answers Done exactly when .."
+      → Undisturbed tag (next (reached o before) (opening q tag store₀ out)) mid
+      → SameStore q (next (reached o before) (opening q tag store₀ out)) store₀ (calls mid ++ (taking b store ∷ []))
+      → Delivered q tag (next (reached o before) (opening q tag store₀ out)) store₀ mid b store
+  -- "A take answers Done exactly when its tag is open", and so on
   pub ends : (before rest : List Call) (b store : List ℕ) → cs ≡ before ++ (taking b store ∷ rest)
-      → (takeCall (run (newTable o) before) b (length store) .answer ≡ Done) ↔ Ends o (answersOf o before) b store
-  pub frame : (before rest : List Call) (b store : List ℕ) → cs ≡ before ++ (taking b store ∷ rest) → TakeFrame (run (newTable o) before) b store
-  pub unchanged : (before rest : List Call) (c : Call) → cs ≡ before ++ (c ∷ rest) → 0 < eventNumber (answered (run (newTable o) before) c) → Unchanged (run (newTable o) before) c
+      → (takeCall (reached o before) b (length store) .answer ≡ Done) ↔ Ends o (answersOf o before) b store
+  pub frame : (before rest : List Call) (b store : List ℕ) → cs ≡ before ++ (taking b store ∷ rest)
+      → TakeFrame (reached o before) b store
+  pub unchanged : (before rest : List Call) (c : Call) → cs ≡ before ++ (c ∷ rest)
+      → 0 < eventNumber (answered (reached o before) c)
+      → Unchanged (reached o before) c
 
 -- the theorem
 abbrev pub Demand3Holds : Type 0

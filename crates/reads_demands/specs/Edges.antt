@@ -20,6 +20,7 @@ use Rattle.tlp_write.specs.Layout.{headerOf}
 use Rattle.tlp_write.specs.Write.{writeRows}
 use Rattle.reads_rules.specs.declared.request.ReadRequest.{ReadRequest}
 use Rattle.reads_rules.specs.declared.piece.Piece.{Piece}
+use Rattle.reads_rules.specs.declared.origin.Origin.{Origin}
 use Rattle.reads_rules.specs.Requests.{requestPacket, requestRows}
 use Rattle.reads_rules.specs.Continuations.{byteCountAt, lowerAddressAt}
 use Rattle.reads_store.specs.Stores.{stored}
@@ -180,12 +181,13 @@ oneAnswer a = record {
   kind = CompletionData (headerWith (byteCountAt a 0) (lowerAddressAt a 0)) (a .length);
 }
 
+abbrev pub originWith : ℕ → Origin
+originWith rcb = record { settings = settingsWith rcb; requester = 0x0100 }
+
 -- the number that take gives for a first piece, into a store as long as the window
 abbrev pub pieceNumber : ℕ → Access → Piece → ℕ
 pieceNumber rcb a c =
-    first
-    (pieceRows (record { settings = settingsWith rcb; requester = 0x0100 }) (Open (record { request = requestOf a; taken = 0 })) c
-    (4 * a .length))
+    first (pieceRows (originWith rcb) (Open (record { request = requestOf a; taken = 0 })) c (4 * a .length))
 
 -- the Length field of a header, and the Byte Count field, as they stand
 abbrev pub lengthField : List ℕ → ℕ

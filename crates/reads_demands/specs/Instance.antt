@@ -1,4 +1,5 @@
--- Delivery, worked, so that its premises are seen to hold together: P2's read taken in 96+128+32 bytes, with other calls before, between and after.
+-- Delivery, worked, so that its premises are seen to hold together: P2's read taken in 96+128+32 bytes, with other
+-- calls before, between and afterwards. The theorem is a `Premises`; no promise cites this file.
 use Prim.Native.Nat.{ℕ}
 use mathlib.Core.Path.{_≡_}
 use mathlib.Core.Bool.{true}
@@ -16,18 +17,21 @@ use Rattle.reads.specs.Tables.{newTable}
 use Rattle.reads.specs.Answers.{openNumber}
 use Rattle.reads.specs.OpenCall.{openCall}
 use Rattle.cuttings.specs.Lawful.{lawfulCutting}
-use Rattle.reads_demands.specs.History.{History, Call, opening, taking, withdrawing, asking, openEvent, takeEvent, withdrawEvent, owedEvent}
-use Rattle.reads_demands.specs.Demand3.{next, run, answers, Item, other, piece, calls, pieces, Undisturbed, SameStore}
+use Rattle.reads_demands.specs.Edges.{reading, longRead}
+use Rattle.reads_demands.specs.History.{Call, opening, taking, withdrawing, asking}
+use Rattle.reads_demands.specs.History.{History, openEvent, takeEvent, withdrawEvent, owedEvent}
+use Rattle.reads_demands.specs.Demand3.{next, answers, reached}
+use Rattle.reads_demands.specs.Demand3.{Item, other, piece, calls, pieces, Undisturbed, SameStore}
 
 abbrev pub origin : Origin
 origin = record { settings = record { mps = 128; mrrs = 512; rcb = 128 }; requester = 0x0100 }
 
 abbrev pub read : ReadRequest
-read = record { access = record { address = 0x10020; length = 64; first = 0b1111; last = 0b1111 }; «traffic_class» = 0; attributes = 0; start = 4 }
+read = record { access = longRead; «traffic_class» = 0; attributes = 0; start = 4 }
 
 -- a read of one doubleword, whose window touches the other's end
 abbrev pub shortRead : ReadRequest
-shortRead = record { access = record { address = 0x20000; length = 1; first = 0b1111; last = 0b0000 }; «traffic_class» = 0; attributes = 0; start = 260 }
+shortRead = record { access = reading 0x20000 1 0b1111 0b0000; «traffic_class» = 0; attributes = 0; start = 260 }
 
 -- the pieces as they arrive: CplD, from 0200 to 0100, tag 5; 24, 32 and 8 doublewords
 abbrev pub piece₁ : List ℕ
@@ -39,7 +43,8 @@ piece₂ = 0x4A ∷ 0x00 ∷ 0x00 ∷ 0x20 ∷ 0x02 ∷ 0x00 ∷ 0x00 ∷ 0xA0 �
 abbrev pub piece₃ : List ℕ
 piece₃ = 0x4A ∷ 0x00 ∷ 0x00 ∷ 0x08 ∷ 0x02 ∷ 0x00 ∷ 0x00 ∷ 0x20 ∷ 0x01 ∷ 0x00 ∷ 0x05 ∷ 0x00 ∷ replicate 32 3
 
--- a store of 264 bytes: before the window four bytes, which others may write; then the rest, at opening and after one piece and two
+-- a store of 264 bytes: before the window four bytes, which others may write; then the rest, at opening, with one piece
+-- and with two
 abbrev pub storeOf : ℕ → List ℕ → List ℕ
 storeOf v rest = replicate 4 v ++ rest
 
@@ -100,13 +105,16 @@ afterwards = asking ∷ []
 
 -- the table after the opening
 abbrev pub opened : Table
-opened = next (run (newTable origin) before) (opening read 5 (storeOf 10 rest₀) out)
+opened = next (reached origin before) (opening read 5 (storeOf 10 rest₀) out)
 
 -- every premise of `delivery` in Demand3, and the answers
 pub record Premises : Type 0 where
   pub listed : settingsListed (origin .settings) ≡ true
-  pub split : list ≡ before ++ (opening read 5 (storeOf 10 rest₀) out ∷ (calls between ++ (taking piece₃ (storeOf 15 rest₂) ∷ afterwards)))
-  pub accepted : openNumber (openCall (run (newTable origin) before) read 5 (length (storeOf 10 rest₀)) (length out) .answer) ≡ 0
+  pub split : list
+      ≡ before
+      ++ (opening read 5 (storeOf 10 rest₀) out ∷ (calls between ++ (taking piece₃ (storeOf 15 rest₂) ∷ afterwards)))
+  pub accepted : openNumber (openCall (reached origin before) read 5 (length (storeOf 10 rest₀)) (length out) .answer)
+      ≡ 0
   pub lawful : lawfulCutting origin 5 read (pieces between ++ (piece₃ ∷ [])) ≡ true
   pub undisturbed : Undisturbed 5 opened between
   pub same : SameStore read opened (storeOf 10 rest₀) (calls between ++ (taking piece₃ (storeOf 15 rest₂) ∷ []))

@@ -4,5 +4,5 @@ pub mod Demand1
 pub mod Demand2
 pub mod Demand3
 pub mod OneForm
-pub mod Instance
 pub mod Edges
+pub mod Instance
