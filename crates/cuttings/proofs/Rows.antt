@@ -61,7 +61,8 @@ module _ (stands : ℕ → Bool) (tails : ℕ → List (List ℕ)) where
   begins (suc n) ns m = go (begins n ns) (stands (suc n)) refl m
     where
       go : (Member ns (startingWith stands tails n) → Begins stands tails n ns) → (b : Bool) → stands (suc n) ≡ b
-          → Member ns (pick b (map (λ ms. suc n ∷ ms) (tails (suc n))) [] ++ startingWith stands tails n) → Begins stands tails (suc n) ns
+          → Member ns (pick b (map (λ ms. suc n ∷ ms) (tails (suc n))) [] ++ startingWith stands tails n)
+          → Begins stands tails (suc n) ns
       go f false e h = grown n ns (f h)
       go f true e h =
           ⊎-elim
@@ -70,11 +71,13 @@ module _ (stands : ℕ → Bool) (tails : ℕ → List (List ℕ)) where
           (λ k. grown n ns (f k))
           (in-append ns (map (λ ms. suc n ∷ ms) (tails (suc n))) (startingWith stands tails n) h)
 
-  listed : (most n : ℕ) (ms : List ℕ) → 1 ≤ n → n ≤ most → stands n ≡ true → Member ms (tails n) → Member (n ∷ ms) (startingWith stands tails most)
+  listed : (most n : ℕ) (ms : List ℕ) → 1 ≤ n → n ≤ most → stands n ≡ true → Member ms (tails n)
+      → Member (n ∷ ms) (startingWith stands tails most)
   listed zero n ms some l e m = absurd (omega arith)
   listed (suc k) n ms some l e m = go (λ h. listed k n ms some h e m) (eqb n (suc k)) refl
     where
-      go : (n ≤ k → Member (n ∷ ms) (startingWith stands tails k)) → (b : Bool) → eqb n (suc k) ≡ b → Member (n ∷ ms) (startingWith stands tails (suc k))
+      go : (n ≤ k → Member (n ∷ ms) (startingWith stands tails k)) → (b : Bool) → eqb n (suc k) ≡ b
+          → Member (n ∷ ms) (startingWith stands tails (suc k))
       go f true q =
           let z : n ≡ suc k = eqb-true n (suc k) q in
           let h : stands (suc k) ≡ true = rw (← z) e in

@@ -43,8 +43,10 @@ module _ (requester tag : ℕ) (q : ReadRequest) where
 
   -- a read has no data, so 3, 5 and the second 6 do not come
   same-later : (settings : Settings) (space : ℕ)
-      → first (laterRows settings packet 0 space) ≡ first (row 7 (enablesBad Memory (q .access)) ∷ row 8 (pageBad Memory (q .access)) ∷ row 12 (ltb space (sizeOf packet)) ∷ [])
-  same-later settings space = let k = read-type requester tag q in rw (k .1 (accessOf packet .length), le-ltb (settings .mps) 0 zero-le, k .0) (unfold first plainBad requestPacket accessOf in refl)
+      → first (laterRows settings packet 0 space)
+      ≡ first (row 7 (enablesBad Memory (q .access)) ∷ row 8 (pageBad Memory (q .access)) ∷ row 12 (ltb space (sizeOf packet)) ∷ [])
+  same-later settings space =
+      let k = read-type requester tag q in rw (k .1 (accessOf packet .length), le-ltb (settings .mps) 0 zero-le, k .0) (unfold first plainBad requestPacket accessOf in refl)
 
 pub as-writer : AsWriter
 unfolding givenBad

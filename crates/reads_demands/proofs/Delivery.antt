@@ -44,7 +44,7 @@ use Rattle.reads_demands.specs.Demand3.{next, answered, lent, left, run,
 use Rattle.reads_demands.proofs.LawfulPieces.{next-piece}
 use Rattle.reads_demands.proofs.CleanPieces.{clean-bytes, legal-length, within-window}
 use Rattle.reads_demands.proofs.OneTake.{continues, take-store}
-use Rattle.reads_demands.proofs.Limits.{true-or-false}
+use Rattle.reads_demands.proofs.Tests.{true-or-false}
 use Rattle.reads_demands.proofs.Steps.{doublewords-end}
 use Rattle.reads_demands.proofs.Accepted.{opened-rows, place-parts}
 use Rattle.reads_demands.proofs.Runs.{Sound, sound-next, sound-valid, state-next, apart}

@@ -36,6 +36,7 @@ module _ (t : Table) (b : List ℕ) (room : ℕ) where
 
 pub taken-exactly : TakenExactly
 taken-exactly t b room v = record {
-  taken = (some-read t b room, λ k. more-or-done (eqb (pieceIn b .length) (owedOf (k .0))) _ (continues t b room (k .0) v (k .1)));
+  taken =
+      (some-read t b room, λ k. more-or-done (eqb (pieceIn b .length) (owedOf (k .0))) _ (continues t b room (k .0) v (k .1)));
   done = (is-done t b room, λ k. continues t b room (k .0) v (k .1 .0) ∙ rw (eq-eqb _ _ (k .1 .1)));
 }

@@ -21,9 +21,9 @@ use Rattle.cuttings.specs.Rows.{rowsFrom, cuttings}
 use Rattle.reads_demands.specs.Edges.{EdgesHold}
 
 pub edges-hold : EdgesHold
-unfolding first settingsListed typeAt typeOf accessOf enablesAllowed off trail total enablesAt enabled clearBelow clearAbove
-    orMost lengthAt digestAt dataBytes digestBytes bytesCalled plainBad enablesBad pageBad requestAt routeAt kindAt packetAt
-    hintOrAddressTypeSet routingBad formBad commonBad requestBad ownBad reservedGiven addressRouteBad routeBad routingIn
-    memoryAddress ownBytes frontBytes headerOf sizeOf requestPacket givenBad holdsWindow byteCountAt lowerAddressAt cutAllowed
-    legal statusBad differs merged stored rowsFrom cuttings
+unfolding first settingsListed typeAt typeOf accessOf enablesAllowed off trail total enablesAt enabled clearBelow
+    clearAbove orMost lengthAt digestAt dataBytes digestBytes bytesCalled plainBad enablesBad pageBad requestAt
+    routeAt kindAt packetAt hintOrAddressTypeSet routingBad formBad commonBad requestBad ownBad reservedGiven
+    addressRouteBad routeBad routingIn memoryAddress ownBytes frontBytes headerOf sizeOf requestPacket givenBad
+    holdsWindow byteCountAt lowerAddressAt cutAllowed legal statusBad differs merged stored rowsFrom cuttings
 edges-hold = refl

@@ -1,8 +1,8 @@
 -- A tag's record in a table, for any limit of tags that the table has room for.
 use Prim.Native.Nat.{ℕ, _*_, _/_, _≤_, _<_}
-use mathlib.Core.Path.{_≡_, refl, sym, _∙_}
+use mathlib.Core.Path.{_≡_, sym, _∙_}
 use mathlib.Core.Logic.{_⊎_, inl, inr, _≢_}
-use mathlib.Core.Bool.{Bool, true, false}
+use mathlib.Core.Bool.{true, false}
 use native.Mathlib.Omega.{arith}
 use lib.Dec.{ltb, eqb}
 use lib.ListN.{length, length-replicate}
@@ -17,10 +17,7 @@ use Rattle.reads_slots.proofs.RecordLaws.{length-opened, length-words, record-e
 use Rattle.reads.specs.declared.table.Table.{Table}
 use Rattle.reads.proofs.TableLaws.{limit-fits}
 use Rattle.reads.specs.Tables.{tagLimit, newTable, stateAt, withState}
-
-pub true-or-false : (b : Bool) → (b ≡ true) ⊎ (b ≡ false)
-true-or-false true = inl refl
-true-or-false false = inr refl
+use Rattle.reads_demands.proofs.Tests.{true-or-false}
 
 -- the limit of a table's tags
 abbrev pub limitOf : Table → ℕ

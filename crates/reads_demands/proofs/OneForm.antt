@@ -89,8 +89,10 @@ module _ (o : Origin) where
 
   moved-formed : (t : Table) (tag : ℕ) (c : Change) → limitOf t ≡ tagLimit (o .settings) → Sized t → Fair t tag c → Formed t → Formed (moved c t tag)
   moved-formed t tag keeps l size f e = e
-  moved-formed t tag (opens q) l size f e = with-formed t tag _ l size (fits-after t tag (opens q) f) (λ h. let k : tag < limitOf t = f .within in absurd (omega arith)) e
-  moved-formed t tag (adds b) l size f e = with-formed t tag _ l size (fits-after t tag (adds b) f) (λ h. rw (state-over t tag h)) e
+  moved-formed t tag (opens q) l size f e =
+      with-formed t tag _ l size (fits-after t tag (opens q) f) (λ h. let k : tag < limitOf t = f .within in absurd (omega arith)) e
+  moved-formed t tag (adds b) l size f e =
+      with-formed t tag _ l size (fits-after t tag (adds b) f) (λ h. rw (state-over t tag h)) e
   moved-formed t tag closes l size f e = with-formed t tag Free l size (fits-after t tag closes tt) (λ h. refl) e
 
   next-formed : (t : Table) (c : Call) → Sound o t → Formed t → Formed (next t c)

@@ -63,7 +63,8 @@ number-taken : (n : ℕ) (x : TakeAnswer) → takes (numberOr n x) ≡ true → 
 number-taken zero x e = (refl, e)
 number-taken (suc n) x e = absurd (false≢true e)
 
-outcome-taken : (a b d : Bool) (status : ℕ) → takes (pick a (pick b Poisoned (pick d Done More)) (Failed status)) ≡ true → (a ≡ true) × (b ≡ false)
+outcome-taken : (a b d : Bool) (status : ℕ)
+    → takes (pick a (pick b Poisoned (pick d Done More)) (Failed status)) ≡ true → (a ≡ true) × (b ≡ false)
 outcome-taken true true d status e = absurd (false≢true e)
 outcome-taken true false d status e = (refl, refl)
 outcome-taken false b d status e = absurd (false≢true e)
@@ -195,7 +196,8 @@ module _ (t : Table) (b : List ℕ) (room : ℕ) where
 
   -- Done when n = L - p, otherwise More
   pub done-last : (m : Met) → takeCall t b room .answer ≡ Done → pieceIn b .length ≡ owedOf (m .read)
-  done-last m e = eqb-true _ _ (done-when (eqb (pieceIn b .length) (owedOf (m .read))) (sym (continues (m .read) (m .valid) (m .continues)) ∙ e))
+  done-last m e =
+      eqb-true _ _ (done-when (eqb (pieceIn b .length) (owedOf (m .read))) (sym (continues (m .read) (m .valid) (m .continues)) ∙ e))
 
   pub more-left : (m : Met) → takeCall t b room .answer ≡ More → pieceIn b .length < owedOf (m .read)
   more-left m e =

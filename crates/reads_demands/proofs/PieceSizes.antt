@@ -60,7 +60,8 @@ cpld-sized : (mps : ℕ) (b : List ℕ) → length b ≡ bytesCalled CplD b → 
 unfolding packetAt kindAt routeAt typeOf accessOf pieceOf payloadOf dataBytes bytesCalled
 cpld-sized mps b called most = (length-take-le (4 * lengthAt b) (drop 12 b) (simp length-drop (omega arith)), most)
 
-type-sized : (settings : Settings) (b : List ℕ) → typeAt (byte b 0) ≡ CplD → first (readRows settings b) ≡ 0 → PieceSize settings b
+type-sized : (settings : Settings) (b : List ℕ) → typeAt (byte b 0) ≡ CplD → first (readRows settings b) ≡ 0
+    → PieceSize settings b
 type-sized settings b e z =
     let n = first-none (readRows settings b) refl z in
     let called = eqb-true (length b) (bytesCalled (typeAt (byte b 0)) b) (not-false _ (n .1 .1 .1 .1 .0)) in
@@ -68,5 +69,6 @@ type-sized settings b e z =
     let k = cpld-sized (settings .mps) b (rw e at called) (rw e at most) in
     record { payload = rw e (k .0); most = rw e (k .1) }
 
-pub piece-size : (settings : Settings) (b : List ℕ) → first (readRows settings b) ≡ 0 → isCompletion (packetIn b) ≡ true → pieceIn b .«with_data» ≡ true → PieceSize settings b
+pub piece-size : (settings : Settings) (b : List ℕ) → first (readRows settings b) ≡ 0
+    → isCompletion (packetIn b) ≡ true → pieceIn b .«with_data» ≡ true → PieceSize settings b
 piece-size settings b z c d = type-sized settings b (with-data-type (typeAt (byte b 0)) b c d) z

@@ -28,7 +28,9 @@ use Rattle.reads.specs.TakeCall.{advanced}
 use Rattle.reads.specs.Tables.{tagLimit, newTable, stateAt, withState, validTable}
 use Rattle.reads_demands.specs.History.{Call, Event, Change, keeps, opens, adds, closes, eventTag, eventChange, change}
 use Rattle.reads_demands.specs.Demand3.{next, answered}
-use Rattle.reads_demands.proofs.Limits.{true-or-false, limitOf, Sized, state-over, state-new, state-fits, size-new, size-with, state-with}
+use Rattle.reads_demands.proofs.Tests.{true-or-false}
+use Rattle.reads_demands.proofs.Limits.{limitOf, Sized, state-over, state-new}
+use Rattle.reads_demands.proofs.Limits.{state-fits, size-new, size-with, state-with}
 use Rattle.reads_demands.proofs.Steps.{afterChange, moved, next-moved}
 use Rattle.reads_demands.proofs.Accepted.{FairAdd, Fair, fair, fair-at}
 
@@ -93,7 +95,8 @@ module _ {o : Origin} {t : Table} (g : Sound o t) where
   state-next c u = state-change t (g .size) c u
 
   -- the windows of two open tags share no byte
-  pub apart : (u v : ℕ) → u ≢ v → (r r₂ : Read) → stateAt t u ≡ Open r → stateAt t v ≡ Open r₂ → sharesByte (r .request) (r₂ .request) ≡ false
+  pub apart : (u v : ℕ) → u ≢ v → (r r₂ : Read) → stateAt t u ≡ Open r → stateAt t v ≡ Open r₂
+      → sharesByte (r .request) (r₂ .request) ≡ false
   apart u v h r r₂ e f = rw (e, f) at (g .disjoint u v h)
 
 -- ---- what holds is kept
@@ -115,17 +118,20 @@ moved-size closes t tag l = size-with t tag _ l
 pub adds-to : (t : Table) (u : ℕ) (b : List ℕ) (f : FairAdd t u b) → stateAt t u ≡ Open (f .read)
 adds-to t u b f = rw (f .named) at (f .met .is-open)
 
-valid-later : (settings : Settings) (r : Read) (p : ℕ) → validRead settings r ≡ true → p < r .request .access .length → validRead settings (record { request = r .request; taken = p }) ≡ true
+valid-later : (settings : Settings) (r : Read) (p : ℕ) → validRead settings r ≡ true → p < r .request .access .length
+    → validRead settings (record { request = r .request; taken = p }) ≡ true
 unfolding validRead
 valid-later settings r p e h =
     let a = and-eq-true-iff (eqb (first (requestRows (r .request) ++ placeRows settings (r .request) storeLimit)) 0) (ltb (r .taken) (r .request .access .length)) .0 e in
     rw (a .0, lt-ltb p (r .request .access .length) h)
 
-valid-after : (settings : Settings) (t : Table) (u : ℕ) (c : Change) → t .origin .settings ≡ settings → Fair t u c → validState settings (stateAt t u) ≡ true
+valid-after : (settings : Settings) (t : Table) (u : ℕ) (c : Change) → t .origin .settings ≡ settings → Fair t u c
+    → validState settings (stateAt t u) ≡ true
     → validState settings (afterChange c (stateAt t u)) ≡ true
 valid-after settings t u keeps k f e = e
 valid-after settings t u (opens q) k f e = rw k at (f .fine)
-valid-after settings t u (adds b) k f e = rw (adds-to t u b f) (valid-later settings (f .read) _ (rw (adds-to t u b f) at e) (f .below))
+valid-after settings t u (adds b) k f e =
+    rw (adds-to t u b f) (valid-later settings (f .read) _ (rw (adds-to t u b f) at e) (f .below))
 valid-after settings t u closes k f e = refl
 
 shares-sym : (x y : State) → sharesStates x y ≡ sharesStates y x
@@ -133,7 +139,8 @@ unfolding sharesByte
 shares-sym Free Free = refl
 shares-sym Free (Open r₂) = refl
 shares-sym (Open r) Free = refl
-shares-sym (Open r) (Open r₂) = and-comm (ltb (r .request .start) (windowEnd (r₂ .request))) (ltb (r₂ .request .start) (windowEnd (r .request)))
+shares-sym (Open r) (Open r₂) =
+    and-comm (ltb (r .request .start) (windowEnd (r₂ .request))) (ltb (r₂ .request .start) (windowEnd (r .request)))
 
 shares-after : (t : Table) (u : ℕ) (c : Change) → Fair t u c → (v : ℕ) → sharesStates (stateAt t u) (stateAt t v) ≡ false
     → sharesStates (afterChange c (stateAt t u)) (stateAt t v) ≡ false

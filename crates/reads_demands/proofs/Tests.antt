@@ -1,6 +1,11 @@
--- Two tests joined.
+-- A test, and two joined.
 use mathlib.Core.Path.{_≡_, refl}
+use mathlib.Core.Logic.{_⊎_, inl, inr}
 use mathlib.Core.Bool.{Bool, true, false, _||_, _&&_, not, true≢false}
+
+pub true-or-false : (b : Bool) → (b ≡ true) ⊎ (b ≡ false)
+true-or-false true = inl refl
+true-or-false false = inr refl
 
 -- none of two faults
 pub neither : (a b : Bool) → a || b ≡ false → (a ≡ false) × (b ≡ false)

@@ -17,9 +17,10 @@ use Rattle.reads_store.specs.Stores.{partAt, stored}
 use Rattle.reads_store.proofs.StoreLaws.{stored-before, stored-in, stored-after}
 use Rattle.tlp_read.specs.Read.{payloadIn}
 use Rattle.cuttings.specs.Lawful.{payloadsJoined}
-use Rattle.reads_demands.proofs.Limits.{true-or-false}
+use Rattle.reads_demands.proofs.Tests.{true-or-false}
 
-pub payloads-end : (bs : List (List ℕ)) (b : List ℕ) → payloadsJoined (bs ++ (b ∷ [])) ≡ payloadsJoined bs ++ payloadIn b
+pub payloads-end : (bs : List (List ℕ)) (b : List ℕ)
+    → payloadsJoined (bs ++ (b ∷ [])) ≡ payloadsJoined bs ++ payloadIn b
 unfolding payloadsJoined
 payloads-end [] b = append-nil (payloadIn b)
 payloads-end (x ∷ bs) b = rw (payloads-end bs b, append-assoc (payloadIn x) (payloadsJoined bs) (payloadIn b))
