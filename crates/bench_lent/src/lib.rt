@@ -1,5 +1,6 @@
-// The cores of the table's calls for C, to be timed beside a plain C table. All is the caller's memory: what the table is made from (MPS, MRRS, RCB,
-// requester ID), its set and its words, and a request in the form of a tag's words.
+// The cores of the table's calls for C, to be timed beside a plain C table. All is the caller's memory: what the
+// table is made from (MPS, MRRS, RCB, requester ID), its set and its words, and a request in the form of a tag's
+// words.
 use reads::answer::OpenAnswer;
 use reads::answer::WithdrawAnswer;
 use reads::open::open_lent;

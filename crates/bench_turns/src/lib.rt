@@ -1,6 +1,7 @@
-// Turns of calls on a table, by value, in place or over what is lent of it, for a program to be timed: each line of standard input says which and how
-// many, each line of standard output what came of them. A program that turns one way alone has one caller of each of the table's cores, as a host
-// has. In one that turns every way a core has two, the method and the lent turns; those of open and take stand apart there.
+// Turns of calls on a table, by value, in place or over what is lent of it, for a program to be timed: each line of
+// standard input says which and how many, each line of standard output what came of them. A program that turns one
+// way alone has one caller of each of the table's cores, as a host has. In one that turns every way a core has two,
+// the method and the lent turns; those of open and take stand apart there.
 mod by_value;
 mod code;
 mod in_place;
@@ -25,7 +26,8 @@ fn wide(x: u8) -> u64 {
     x as u64
 }
 
-// The sum of a store's first 4,096 bytes, where the turns' window lies. It is far below 2^64; a sum that may wrap asks for no bound.
+// The sum of a store's first 4,096 bytes, where the turns' window lies. It is far below 2^64; a sum that may wrap
+// asks for no bound.
 fn window_sum(store: &[u8; 65536]) -> u64 {
     let mut sum: u64 = 0;
     let mut i: usize = 0;
@@ -36,7 +38,8 @@ fn window_sum(store: &[u8; 65536]) -> u64 {
     sum
 }
 
-// The number of the first call that is refused; 0 where none is. Open only measures its store, so it is lent another of the same size.
+// The number of the first call that is refused; 0 where none is. Open only measures its store, so it is lent another
+// of the same size.
 fn turns_code(
     lent: bool,
     place: bool,
@@ -84,7 +87,8 @@ fn run_rest(lent: bool, place: bool, line: &[u8], before: Field) {
     io::write_all(1, b"bad\n");
 }
 
-// Flags and no enum: a flag that a program fixes reaches the turns as a constant, and the ways not taken are dropped before calls are compiled in.
+// Flags and no enum: a flag that a program fixes reaches the turns as a constant, and the ways not taken are dropped
+// before calls are compiled in.
 fn run_line(named: bool, place: bool, line: &[u8]) {
     if named {
         let way = way_in(line);

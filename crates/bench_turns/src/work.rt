@@ -1,12 +1,13 @@
-// A line of input: `take|withdraw others=N size=N tag=N turns=N`, and where it names the way `value `, `place ` or `lent ` before.
+// A line of input: `take|withdraw others=N size=N tag=N turns=N`, and where it names the way `value `, `place ` or
+// `lent ` before.
 use text::fields::Field;
 use text::fields::decimal_after;
 use text::fields::key_after;
 use text::fields::line_start;
 ghost use Prim.Native.Nat.{_≤_};
 
-// What is to be done: whether a turn takes its read or withdraws it, how many other reads are open, the read's size in bytes, its tag, and how many
-// turns.
+// What is to be done: whether a turn takes its read or withdraws it, how many other reads are open, the read's size
+// in bytes, its tag, and how many turns.
 pub(crate) struct Work {
     pub good: bool,
     pub takes: bool,

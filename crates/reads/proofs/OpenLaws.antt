@@ -28,8 +28,8 @@ use Rattle.reads.specs.declared.answer.OpenAnswer.{OpenAnswer}
 use Rattle.reads.specs.declared.answer.OpenAnswer.the-variants.{Opened, Refused}
 use Rattle.reads.specs.Tables.{tagLimit, tableOf, stateAt, withState, validTable, sharesOpen}
 use Rattle.reads.proofs.TableLaws.{limit-fits, shares-seen}
-use Rattle.reads.specs.OpenCall.{headerPacket, earlyRows, openRows, openAnswer, tableOpened, openCall, outGiven, openOut}
-use Rattle.reads.specs.Steps.{earlySeen, headerAnswer, opens}
+use Rattle.reads.specs.OpenCall.{headerPacket, openRows, openAnswer, tableOpened, openCall, outGiven, openOut}
+use Rattle.reads.specs.Inner.Steps.{rowsBefore12, rowsBefore24, headerAnswer, opens}
 
 -- ---- the rows before 12
 
@@ -50,7 +50,7 @@ module _ (rs : List Row) where
   unfolding first
   open-next r x m e h q = rw (← e, h) q
 
-pub ruleset early-laws = (limit-here, limit-next, open-here, open-next)
+pub ruleset before-24-laws = (limit-here, limit-next, open-here, open-next)
 
 -- ---- the header, by the writer
 
@@ -104,12 +104,12 @@ module _ (n : ℕ) (shared : Bool) where
 pub ruleset window-laws = (window-earlier, window-shared, window-clear, shares-seen)
 
 pub number-is : (o : Origin) (opened words : List ℕ) (q : ReadRequest) (tag room n m : ℕ) (v : Bool) (x : State) → v ≡ validTable (tableOf o opened words) → x ≡ stateAt (tableOf o opened words) tag
-    → m ≡ first (earlySeen v o x q tag room) → n ≡ pick (eqb m 0) (first (row 24 (sharesOpen (tableOf o opened words) q) ∷ [])) m
-    → n ≡ first (earlyRows (tableOf o opened words) q tag room)
+    → m ≡ first (rowsBefore24 v o x q tag room) → n ≡ pick (eqb m 0) (first (row 24 (sharesOpen (tableOf o opened words) q) ∷ [])) m
+    → n ≡ first (rowsBefore12 (tableOf o opened words) q tag room)
 number-is o opened words q tag room n m v x e f g h = h ∙ go m (rw (e, f) at g)
   where
     before : List Row
-    before = earlySeen (validTable (tableOf o opened words)) o (stateAt (tableOf o opened words) tag) q tag room
+    before = rowsBefore24 (validTable (tableOf o opened words)) o (stateAt (tableOf o opened words) tag) q tag room
 
     shared : List Row
     shared = row 24 (sharesOpen (tableOf o opened words) q) ∷ []
@@ -119,9 +119,9 @@ number-is o opened words q tag room n m v x e f g h = h ∙ go m (rw (e, f) at g
     go (suc k) z = rw (ne-eqb (suc k) 0 (λ y. absurd (omega arith))) (some-of before shared (suc k) z (λ y. absurd (omega arith)))
 
 -- without a number the tag is below the limit, so it fits the header's field
-pub tag-fits : (t : Table) (q : ReadRequest) (tag room n : ℕ) → n ≡ first (earlyRows t q tag room) → n ≡ 0 → tag < 2 ^ 8
+pub tag-fits : (t : Table) (q : ReadRequest) (tag room n : ℕ) → n ≡ first (rowsBefore12 t q tag room) → n ≡ 0 → tag < 2 ^ 8
 tag-fits t q tag room n e h =
-    let none = first-none (earlyRows t q tag room) refl (sym e ∙ h) in
+    let none = first-none (rowsBefore12 t q tag room) refl (sym e ∙ h) in
     let k = limit-fits (t .origin .settings) in
     let l = leb-false (tagLimit (t .origin .settings)) tag (none .1 .1 .1 .1 .0) in
     omega arith
@@ -131,7 +131,7 @@ when-none n m k f h = f h
 
 -- ---- the whole call
 
-module _ (t : Table) (q : ReadRequest) (tag room n : ℕ) (e : n ≡ first (earlyRows t q tag room)) (space : ℕ) where
+module _ (t : Table) (q : ReadRequest) (tag room n : ℕ) (e : n ≡ first (rowsBefore12 t q tag room)) (space : ℕ) where
   abbrev header : Packet
   header = headerPacket (t .origin) q tag
 
@@ -152,8 +152,8 @@ module _ (t : Table) (q : ReadRequest) (tag room n : ℕ) (e : n ≡ first (earl
       end false = unfold first in refl
 
       go : (m : ℕ) → n ≡ m → openAnswer (first (openRows t q tag room space)) (sizeOf header) ≡ headerAnswer m (layAnswer (t .origin .settings .mps) header 0 space)
-      go zero z = rw (← none-of (earlyRows t q tag room) last n (first last) refl e z refl, lays) (end (ltb space (sizeOf header)))
-      go (suc k) z = rw (sym (some-of (earlyRows t q tag room) last n e (λ y. let w : 0 ≡ suc k = sym y ∙ z in omega arith)) ∙ z)
+      go zero z = rw (← none-of (rowsBefore12 t q tag room) last n (first last) refl e z refl, lays) (end (ltb space (sizeOf header)))
+      go (suc k) z = rw (sym (some-of (rowsBefore12 t q tag room) last n e (λ y. let w : 0 ≡ suc k = sym y ∙ z in omega arith)) ∙ z)
 
 -- what is stored, and that nothing is
 
@@ -166,7 +166,7 @@ module _ (t : Table) (q : ReadRequest) (tag : ℕ) where
   kept-refused (Opened size) h = absurd (true≢false h)
   kept-refused (Refused n) h = refl
 
-module _ (o : Origin) (opened words : List ℕ) (q : ReadRequest) (tag room n : ℕ) (e : n ≡ first (earlyRows (tableOf o opened words) q tag room)) where
+module _ (o : Origin) (opened words : List ℕ) (q : ReadRequest) (tag room n : ℕ) (e : n ≡ first (rowsBefore12 (tableOf o opened words) q tag room)) where
   module _ (space : ℕ) (a : OpenAnswer) (g : a ≡ headerAnswer n (layAnswer (o .settings .mps) (headerPacket o q tag) 0 space)) (r : Bool) (h : r ≡ opens a) where
     answer-is : a ≡ openAnswer (first (openRows (tableOf o opened words) q tag room space)) (sizeOf (headerPacket o q tag))
     answer-is = g ∙ sym (answers (tableOf o opened words) q tag room n e space)

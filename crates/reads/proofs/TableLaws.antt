@@ -28,19 +28,19 @@ use Rattle.reads.specs.Tables.{tagLimit, newTable, tableOf, stateAt, wit
 use Rattle.reads.specs.OtherCalls.{makeCall, withdrawRows, withdrawAnswer, withdrawGives, withdrawCall, owedCall}
 
 -- there is room for more tags than may be opened
-pub limit-fits : (s : Settings) → tagLimit s ≤ capacity
+pub limit-fits : (settings : Settings) → tagLimit settings ≤ capacity
 unfolding tagLimit
-limit-fits s = omega arith
+limit-fits settings = omega arith
 
 -- ---- what a call looks at, from what was lent
 
 module _ (o : Origin) (opened words : List ℕ) where
-  module _ (s : Settings) (k : s ≡ o .settings) (r : Bool) (h : r ≡ settingsListed s) where
+  module _ (settings : Settings) (k : settings ≡ o .settings) (r : Bool) (h : r ≡ settingsListed settings) where
     pub valid-unlisted : not r ≡ true → false ≡ validTable (tableOf o opened words)
     unfolding validTable
     valid-unlisted m = rw (← k, ← h, not-true r m)
 
-    pub valid-listed : (n : ℕ) (b : Bool) → not r ≡ false → n ≡ tagLimit s → b ≡ allBelow n (validAt s n opened words) → b ≡ validTable (tableOf o opened words)
+    pub valid-listed : (n : ℕ) (b : Bool) → not r ≡ false → n ≡ tagLimit settings → b ≡ allBelow n (validAt settings n opened words) → b ≡ validTable (tableOf o opened words)
     unfolding validTable validAt stateAt
     valid-listed n b m e q = rw (q, ← k, ← h, not-false r m, e)
 

@@ -39,7 +39,7 @@ use Rattle.reads.specs.Tables.{tableOf, stateAt, withState, validTable}
 use Rattle.reads_answers.specs.Takes.{readIn, tagOf, pieceAnswer, packetAnswer}
 use Rattle.reads_answers.proofs.TakeLaws.{answer-other, answer-piece, more-le}
 use Rattle.reads.specs.TakeCall.{advanced, tableGiven, storeGiven, packetTaking, packetStore, answerTaking, answerStore, takeCall, takeStore}
-use Rattle.reads.specs.Steps.{takes, recordGiven, otherAnswer, kept, pieceOutcome, pieceAt, numberIn, numberedOutcome, completionOutcome, takeOutcome, outcomeOf, pieceLaid, numberedLaid, completionLaid, takeLaid, laidOf}
+use Rattle.reads.specs.Inner.Steps.{takes, recordGiven, otherAnswer, kept, pieceOutcome, pieceAt, numberIn, numberedOutcome, completionOutcome, takeOutcome, outcomeOf, pieceLaid, numberedLaid, completionLaid, takeLaid, laidOf}
 
 -- ---- what an answer does to table and store
 
@@ -78,34 +78,34 @@ unlaid-is : (n : ℕ) (laid store : List ℕ) → (n ≡ 0 → ⊥) → store �
 unlaid-is zero laid store h = absurd (h refl)
 unlaid-is (suc n) laid store h = refl
 
-module _ (o : Origin) (x : State) (s : List ℕ) (p : Packet) (c : Piece) (n : ℕ) (ep : p ≡ completionIn s) (ec : c ≡ pieceOf p) (en : n ≡ first (completionRows (o .settings .mps) (c .length) s)) where
-  piece-is : c ≡ pieceAt s
+module _ (o : Origin) (x : State) (bytes : List ℕ) (p : Packet) (c : Piece) (n : ℕ) (ep : p ≡ completionIn bytes) (ec : c ≡ pieceOf p) (en : n ≡ first (completionRows (o .settings .mps) (c .length) bytes)) where
+  piece-is : c ≡ pieceAt bytes
   piece-is = ec ∙ ap pieceOf ep
 
-  number-is : n ≡ numberIn o s
-  number-is = en ∙ ap (λ d. first (completionRows (o .settings .mps) (d .length) s)) piece-is
+  number-is : n ≡ numberIn o bytes
+  number-is = en ∙ ap (λ d. first (completionRows (o .settings .mps) (d .length) bytes)) piece-is
 
-  pub completion-unread : (room : ℕ) → (n ≡ 0 → ⊥) → record { answer = Unread (record { number = n }); length = 0 } ≡ completionOutcome o x s room
+  pub completion-unread : (room : ℕ) → (n ≡ 0 → ⊥) → record { answer = Unread (record { number = n }); length = 0 } ≡ completionOutcome o x bytes room
   unfolding completionOutcome
   completion-unread room h = rw (← number-is) (unread-is n _ h)
 
-  pub completion-unlaid : (store : List ℕ) → (n ≡ 0 → ⊥) → store ≡ completionLaid o x s store
+  pub completion-unlaid : (store : List ℕ) → (n ≡ 0 → ⊥) → store ≡ completionLaid o x bytes store
   unfolding completionLaid
   completion-unlaid store h = rw (← number-is) (unlaid-is n _ store h)
 
   module _ (h : n ≡ 0) where
     -- the slice of the payload lies within the bytes
-    pub completion-fits : 12 + 4 * c .length ≤ length s
+    pub completion-fits : 12 + 4 * c .length ≤ length bytes
     completion-fits =
-        let k = first-none (completionRows (o .settings .mps) (c .length) s) refl (sym en ∙ h) .0 in
-        let m = eqb-true (length s) _ (not-false _ k) in
+        let k = first-none (completionRows (o .settings .mps) (c .length) bytes) refl (sym en ∙ h) .0 in
+        let m = eqb-true (length bytes) _ (not-false _ k) in
         omega (arith, m)
 
-    pub completion-read : (room : ℕ) (r : Outcome) → r ≡ pieceOutcome o x c room → r ≡ completionOutcome o x s room
+    pub completion-read : (room : ℕ) (r : Outcome) → r ≡ pieceOutcome o x c room → r ≡ completionOutcome o x bytes room
     unfolding completionOutcome
     completion-read room r q = rw (← number-is, h, ← piece-is) q
 
-    pub completion-laid : (store store′ : List ℕ) → store′ ≡ pieceLaid o x c (take ((12 + 4 * c .length) - 12) (drop 12 s)) store → store′ ≡ completionLaid o x s store
+    pub completion-laid : (store store′ : List ℕ) → store′ ≡ pieceLaid o x c (take ((12 + 4 * c .length) - 12) (drop 12 bytes)) store → store′ ≡ completionLaid o x bytes store
     unfolding completionLaid
     completion-laid store store′ q =
         let k : (12 + 4 * c .length) - 12 ≡ 4 * c .length = omega arith in
@@ -117,42 +117,42 @@ pub ruleset completion-stores = (completion-unlaid, completion-laid)
 
 -- ---- what bytes do
 
-module _ (c : Settings) (s : List ℕ) (n : ℕ) (e : n ≡ first (readRows c s)) where
-  pub other-unread : (n ≡ 0 → ⊥) → Unread (record { number = n }) ≡ otherAnswer (first (readRows c s))
+module _ (settings : Settings) (bytes : List ℕ) (n : ℕ) (e : n ≡ first (readRows settings bytes)) where
+  pub other-unread : (n ≡ 0 → ⊥) → Unread (record { number = n }) ≡ otherAnswer (first (readRows settings bytes))
   other-unread h = rw (← e) (go n h)
     where
       go : (m : ℕ) → (m ≡ 0 → ⊥) → Unread (record { number = m }) ≡ otherAnswer m
       go zero k = absurd (k refl)
       go (suc m) k = refl
 
-  pub other-29 : n ≡ 0 → Refused 29 ≡ otherAnswer (first (readRows c s))
+  pub other-29 : n ≡ 0 → Refused 29 ≡ otherAnswer (first (readRows settings bytes))
   other-29 h = rw (← e, h)
 
 pub ruleset other-laws = (other-unread, other-29)
 
-module _ (v : Bool) (o : Origin) (x : State) (s : List ℕ) where
-  pub outcome-11 : (room : ℕ) → not v ≡ true → record { answer = Refused 11; length = 0 } ≡ takeOutcome v o x s room
+module _ (v : Bool) (o : Origin) (x : State) (bytes : List ℕ) where
+  pub outcome-11 : (room : ℕ) → not v ≡ true → record { answer = Refused 11; length = 0 } ≡ takeOutcome v o x bytes room
   unfolding takeOutcome
   outcome-11 room h = rw (not-true v h)
 
-  pub laid-11 : (store : List ℕ) → not v ≡ true → store ≡ takeLaid v o x s store
+  pub laid-11 : (store : List ℕ) → not v ≡ true → store ≡ takeLaid v o x bytes store
   unfolding takeLaid
   laid-11 store h = rw (not-true v h)
 
-  module _ (h : not v ≡ false) (b : Bool) (e : b ≡ hasCompletion s) where
-    pub outcome-other : (room : ℕ) (a : TakeAnswer) → not b ≡ true → a ≡ otherAnswer (first (readRows (o .settings) s)) → record { answer = a; length = 0 } ≡ takeOutcome v o x s room
+  module _ (h : not v ≡ false) (b : Bool) (e : b ≡ hasCompletion bytes) where
+    pub outcome-other : (room : ℕ) (a : TakeAnswer) → not b ≡ true → a ≡ otherAnswer (first (readRows (o .settings) bytes)) → record { answer = a; length = 0 } ≡ takeOutcome v o x bytes room
     unfolding takeOutcome
     outcome-other room a k q = rw (not-false v h, ← e, not-true b k, q)
 
-    pub laid-other : (store : List ℕ) → not b ≡ true → store ≡ takeLaid v o x s store
+    pub laid-other : (store : List ℕ) → not b ≡ true → store ≡ takeLaid v o x bytes store
     unfolding takeLaid
     laid-other store k = rw (not-false v h, ← e, not-true b k)
 
-    pub outcome-completion : (room : ℕ) (r : Outcome) → not b ≡ false → r ≡ completionOutcome o x s room → r ≡ takeOutcome v o x s room
+    pub outcome-completion : (room : ℕ) (r : Outcome) → not b ≡ false → r ≡ completionOutcome o x bytes room → r ≡ takeOutcome v o x bytes room
     unfolding takeOutcome
     outcome-completion room r k q = rw (not-false v h, ← e, not-false b k) q
 
-    pub laid-completion : (store store′ : List ℕ) → not b ≡ false → store′ ≡ completionLaid o x s store → store′ ≡ takeLaid v o x s store
+    pub laid-completion : (store store′ : List ℕ) → not b ≡ false → store′ ≡ completionLaid o x bytes store → store′ ≡ takeLaid v o x bytes store
     unfolding takeLaid
     laid-completion store store′ k q = rw (not-false v h, ← e, not-false b k) q
 
@@ -163,53 +163,53 @@ pub ruleset laid-laws = (laid-11, laid-other, laid-completion)
 -- ---- byte 10: a completion's tag; what is no completion is answered 29, whichever record is looked at
 
 -- a memory request is none in either form
-neither : (b : Bool) (x y : PacketType) → ofCompletions (familyOf x) ≡ false → ofCompletions (familyOf y) ≡ false → ofCompletions (familyOf (pick b x y)) ≡ false
-neither true x y h k = h
-neither false x y h k = k
+pick-no-completion : (b : Bool) (x y : PacketType) → ofCompletions (familyOf x) ≡ false → ofCompletions (familyOf y) ≡ false → ofCompletions (familyOf (pick b x y)) ≡ false
+pick-no-completion true x y h k = h
+pick-no-completion false x y h k = k
 
-byte-ten : (t : PacketType) (s : List ℕ) → isCompletion (packetAt t s) ≡ true → tagOf (packetAt t s) ≡ byte s 10
+byte-ten : (t : PacketType) (bytes : List ℕ) → isCompletion (packetAt t bytes) ≡ true → tagOf (packetAt t bytes) ≡ byte bytes 10
 unfolding isCompletion packetAt pieceOf kindAt routeAt typeOf completionAt
-byte-ten MRd32 s h = absurd (true≢false (sym h ∙ neither (ltb (addressAt 4 s) (2 ^ 32)) MRd32 MRd64 refl refl))
-byte-ten MRd64 s h = absurd (true≢false (sym h ∙ neither (ltb (addressAt 8 s) (2 ^ 32)) MRd32 MRd64 refl refl))
-byte-ten MWr32 s h = absurd (true≢false (sym h ∙ neither (ltb (addressAt 4 s) (2 ^ 32)) MWr32 MWr64 refl refl))
-byte-ten MWr64 s h = absurd (true≢false (sym h ∙ neither (ltb (addressAt 8 s) (2 ^ 32)) MWr32 MWr64 refl refl))
-byte-ten IORd s h = absurd (true≢false (sym h))
-byte-ten IOWr s h = absurd (true≢false (sym h))
-byte-ten CfgRd0 s h = absurd (true≢false (sym h))
-byte-ten CfgWr0 s h = absurd (true≢false (sym h))
-byte-ten CfgRd1 s h = absurd (true≢false (sym h))
-byte-ten CfgWr1 s h = absurd (true≢false (sym h))
-byte-ten Msg s h = absurd (true≢false (sym h))
-byte-ten MsgD s h = absurd (true≢false (sym h))
-byte-ten Cpl s h = refl
-byte-ten CplD s h = refl
-byte-ten Unlisted s h = refl
+byte-ten MRd32 bytes h = absurd (true≢false (sym h ∙ pick-no-completion (ltb (addressAt 4 bytes) (2 ^ 32)) MRd32 MRd64 refl refl))
+byte-ten MRd64 bytes h = absurd (true≢false (sym h ∙ pick-no-completion (ltb (addressAt 8 bytes) (2 ^ 32)) MRd32 MRd64 refl refl))
+byte-ten MWr32 bytes h = absurd (true≢false (sym h ∙ pick-no-completion (ltb (addressAt 4 bytes) (2 ^ 32)) MWr32 MWr64 refl refl))
+byte-ten MWr64 bytes h = absurd (true≢false (sym h ∙ pick-no-completion (ltb (addressAt 8 bytes) (2 ^ 32)) MWr32 MWr64 refl refl))
+byte-ten IORd bytes h = absurd (true≢false (sym h))
+byte-ten IOWr bytes h = absurd (true≢false (sym h))
+byte-ten CfgRd0 bytes h = absurd (true≢false (sym h))
+byte-ten CfgWr0 bytes h = absurd (true≢false (sym h))
+byte-ten CfgRd1 bytes h = absurd (true≢false (sym h))
+byte-ten CfgWr1 bytes h = absurd (true≢false (sym h))
+byte-ten Msg bytes h = absurd (true≢false (sym h))
+byte-ten MsgD bytes h = absurd (true≢false (sym h))
+byte-ten Cpl bytes h = refl
+byte-ten CplD bytes h = refl
+byte-ten Unlisted bytes h = refl
 
 -- the bytes as a completion are one, with that tag and this payload
-module _ (s : List ℕ) where
-  as-completion : isCompletion (completionIn s) ≡ true
+module _ (bytes : List ℕ) where
+  as-completion : isCompletion (completionIn bytes) ≡ true
   unfolding isCompletion completionIn packetAt kindAt routeAt typeOf
-  as-completion = go (eqb (byte s 0) 0x4A)
+  as-completion = go (eqb (byte bytes 0) 0x4A)
     where
-      go : (b : Bool) → isCompletion (packetAt (pick b CplD Cpl) s) ≡ true
+      go : (b : Bool) → isCompletion (packetAt (pick b CplD Cpl) bytes) ≡ true
       go true = refl
       go false = refl
 
-  completion-tag : tagOf (completionIn s) ≡ byte s 10
+  completion-tag : tagOf (completionIn bytes) ≡ byte bytes 10
   unfolding completionIn
-  completion-tag = byte-ten (completionType (byte s 0)) s as-completion
+  completion-tag = byte-ten (completionType (byte bytes 0)) bytes as-completion
 
-  completion-payload : payloadOf (completionIn s) s ≡ take (4 * pieceAt s .length) (drop 12 s)
+  completion-payload : payloadOf (completionIn bytes) bytes ≡ take (4 * pieceAt bytes .length) (drop 12 bytes)
   unfolding payloadOf completionIn pieceOf packetAt kindAt routeAt typeOf accessOf dataBytes
-  completion-payload = go (eqb (byte s 0) 0x4A)
+  completion-payload = go (eqb (byte bytes 0) 0x4A)
     where
-      go : (b : Bool) → payloadOf (packetAt (pick b CplD Cpl) s) s ≡ take (4 * pieceOf (packetAt (pick b CplD Cpl) s) .length) (drop 12 s)
+      go : (b : Bool) → payloadOf (packetAt (pick b CplD Cpl) bytes) bytes ≡ take (4 * pieceOf (packetAt (pick b CplD Cpl) bytes) .length) (drop 12 bytes)
       go true = refl
       go false = refl
 
-either : (P : PacketType → Type 0) (b : Bool) (x y : PacketType) → P x → P y → P (pick b x y)
-either P true x y h k = h
-either P false x y h k = k
+pick-holds : (P : PacketType → Type 0) (b : Bool) (x y : PacketType) → P x → P y → P (pick b x y)
+pick-holds P true x y h k = h
+pick-holds P false x y h k = k
 
 -- the types of a byte 0 that is neither CplD's nor Cpl's
 other-types : (P : PacketType → Type 0) (b : ℕ) → eqb b 0x4A ≡ false → eqb b 0x0A ≡ false
@@ -217,42 +217,42 @@ other-types : (P : PacketType → Type 0) (b : ℕ) → eqb b 0x4A ≡ false →
 unfolding typeAt
 other-types P b h k m1 m2 m3 m4 i1 i2 c1 c2 c3 c4 g1 g2 u =
     rw (h, k)
-    (either P (eqb b 0x00) MRd32 _ m1
-    (either P (eqb b 0x20) MRd64 _ m2
-    (either P (eqb b 0x40) MWr32 _ m3
-    (either P (eqb b 0x60) MWr64 _ m4
-    (either P (eqb b 0x02) IORd _ i1
-    (either P (eqb b 0x42) IOWr _ i2
-    (either P (eqb b 0x04) CfgRd0 _ c1
-    (either P (eqb b 0x44) CfgWr0 _ c2
-    (either P (eqb b 0x05) CfgRd1 _ c3
-    (either P (eqb b 0x45) CfgWr1 _ c4
-    (either P (leb 0x30 b && leb b 0x37) Msg _ g1
-    (either P (leb 0x70 b && leb b 0x77) MsgD Unlisted g2 u))))))))))))
+    (pick-holds P (eqb b 0x00) MRd32 _ m1
+    (pick-holds P (eqb b 0x20) MRd64 _ m2
+    (pick-holds P (eqb b 0x40) MWr32 _ m3
+    (pick-holds P (eqb b 0x60) MWr64 _ m4
+    (pick-holds P (eqb b 0x02) IORd _ i1
+    (pick-holds P (eqb b 0x42) IOWr _ i2
+    (pick-holds P (eqb b 0x04) CfgRd0 _ c1
+    (pick-holds P (eqb b 0x44) CfgWr0 _ c2
+    (pick-holds P (eqb b 0x05) CfgRd1 _ c3
+    (pick-holds P (eqb b 0x45) CfgWr1 _ c4
+    (pick-holds P (leb 0x30 b && leb b 0x37) Msg _ g1
+    (pick-holds P (leb 0x70 b && leb b 0x77) MsgD Unlisted g2 u))))))))))))
 
 -- bytes without one, which reading accepts: the type is listed, and none of the two
-module _ (s : List ℕ) where
-  none-listed : eqb (byte s 0) 0x4A ≡ false → eqb (byte s 0) 0x0A ≡ false → isUnlisted (familyOf (typeAt (byte s 0))) ≡ false → isCompletion (packetAt (typeAt (byte s 0)) s) ≡ false
+module _ (bytes : List ℕ) where
+  none-listed : eqb (byte bytes 0) 0x4A ≡ false → eqb (byte bytes 0) 0x0A ≡ false → isUnlisted (familyOf (typeAt (byte bytes 0))) ≡ false → isCompletion (packetAt (typeAt (byte bytes 0)) bytes) ≡ false
   unfolding isCompletion packetAt kindAt routeAt typeOf
   none-listed h k =
-      other-types (λ t. isUnlisted (familyOf t) ≡ false → isCompletion (packetAt t s) ≡ false) (byte s 0) h k
-      (λ l. neither (ltb (addressAt 4 s) (2 ^ 32)) MRd32 MRd64 refl refl)
-      (λ l. neither (ltb (addressAt 8 s) (2 ^ 32)) MRd32 MRd64 refl refl)
-      (λ l. neither (ltb (addressAt 4 s) (2 ^ 32)) MWr32 MWr64 refl refl)
-      (λ l. neither (ltb (addressAt 8 s) (2 ^ 32)) MWr32 MWr64 refl refl)
+      other-types (λ t. isUnlisted (familyOf t) ≡ false → isCompletion (packetAt t bytes) ≡ false) (byte bytes 0) h k
+      (λ l. pick-no-completion (ltb (addressAt 4 bytes) (2 ^ 32)) MRd32 MRd64 refl refl)
+      (λ l. pick-no-completion (ltb (addressAt 8 bytes) (2 ^ 32)) MRd32 MRd64 refl refl)
+      (λ l. pick-no-completion (ltb (addressAt 4 bytes) (2 ^ 32)) MWr32 MWr64 refl refl)
+      (λ l. pick-no-completion (ltb (addressAt 8 bytes) (2 ^ 32)) MWr32 MWr64 refl refl)
       (λ l. refl) (λ l. refl) (λ l. refl) (λ l. refl) (λ l. refl) (λ l. refl) (λ l. refl) (λ l. refl) (λ l. absurd (true≢false l))
 
   neither-holds : (a b : Bool) → (a || b) ≡ false → (a ≡ false) × (b ≡ false)
   neither-holds true b h = absurd (true≢false h)
   neither-holds false b h = (refl, h)
 
-  no-completion : (c : Settings) → hasCompletion s ≡ false → first (readRows c s) ≡ 0 → isCompletion (packetAt (typeAt (byte s 0)) s) ≡ false
+  no-completion : (settings : Settings) → hasCompletion bytes ≡ false → first (readRows settings bytes) ≡ 0 → isCompletion (packetAt (typeAt (byte bytes 0)) bytes) ≡ false
   unfolding hasCompletion
-  no-completion c h e =
-      let k = first-none (readRows c s) refl e in
-      let l = le-leb 12 (length s) (ltb-false (length s) 12 (k .1 .0)) in
-      let m : (eqb (byte s 0) 0x4A || eqb (byte s 0) 0x0A) ≡ false = rw l at h in
-      let n = neither-holds (eqb (byte s 0) 0x4A) (eqb (byte s 0) 0x0A) m in
+  no-completion settings h e =
+      let k = first-none (readRows settings bytes) refl e in
+      let l = le-leb 12 (length bytes) (ltb-false (length bytes) 12 (k .1 .0)) in
+      let m : (eqb (byte bytes 0) 0x4A || eqb (byte bytes 0) 0x0A) ≡ false = rw l at h in
+      let n = neither-holds (eqb (byte bytes 0) 0x4A) (eqb (byte bytes 0) 0x0A) m in
       none-listed (n .0) (n .1) (k .1 .1 .0)
 
 -- More is answered to a completion alone
@@ -264,22 +264,22 @@ more-piece true false n zero r h = let z : _≡_ {A = ℕ} 0 1 = cc in absurd (o
 more-piece true false n (suc m) r h = let z : _≡_ {A = ℕ} 0 1 = cc in absurd (omega arith)
 more-piece false b n m r h = let z : _≡_ {A = ℕ} 0 1 = cc in absurd (omega arith)
 
-pub more-fits-in : (t : Table) (tag : ℕ) (s : List ℕ) (room : ℕ) (d : Outcome) (x : State) → d ≡ outcomeOf t tag s room → x ≡ stateAt t tag → d .answer ≡ More
+pub more-fits-in : (t : Table) (tag : ℕ) (bytes : List ℕ) (room : ℕ) (d : Outcome) (x : State) → d ≡ outcomeOf t tag bytes room → x ≡ stateAt t tag → d .answer ≡ More
     → readIn x .taken + d .length ≤ readIn x .request .access .length
 unfolding takeOutcome completionOutcome
-more-fits-in t tag s room d x e k h =
+more-fits-in t tag bytes room d x e k h =
     let o = t .origin in
-    let g = e ∙ more-piece (validTable t) (hasCompletion s) (numberIn o s) (first (readRows (o .settings) s)) (pieceOutcome o (stateAt t tag) (pieceAt s) room) (rw e at h) in
-    let a : d .answer ≡ packetAnswer o x (completionIn s) room = rw (g, k) (sym (answer-piece o (stateAt t tag) (completionIn s) room (as-completion s))) in
-    let l : d .length ≡ pieceAt s .length = rw g in
-    rw l (more-le o x (completionIn s) room (d .answer) (pieceAt s) (readIn x) a h refl refl)
+    let g = e ∙ more-piece (validTable t) (hasCompletion bytes) (numberIn o bytes) (first (readRows (o .settings) bytes)) (pieceOutcome o (stateAt t tag) (pieceAt bytes) room) (rw e at h) in
+    let a : d .answer ≡ packetAnswer o x (completionIn bytes) room = rw (g, k) (sym (answer-piece o (stateAt t tag) (completionIn bytes) room (as-completion bytes))) in
+    let l : d .length ≡ pieceAt bytes .length = rw g in
+    rw l (more-le o x (completionIn bytes) room (d .answer) (pieceAt bytes) (readIn x) a h refl refl)
 
 -- what is stored is what the table after the answer has
 stored-given : (t : Table) (p : Packet) (a : TakeAnswer)
     → pick (takes a) (withState t (tagOf p) (recordGiven a (stateAt t (tagOf p)) (pieceOf p .length))) t ≡ tableGiven a t (pieceOf p)
 stored-given t p More = refl
 stored-given t p Done = refl
-stored-given t p (Failed s) = refl
+stored-given t p (Failed status) = refl
 stored-given t p Poisoned = refl
 stored-given t p (Unread r) = refl
 stored-given t p (Refused n) = refl
@@ -290,108 +290,108 @@ valid-listed : (t : Table) → validTable t ≡ true → settingsListed (t .orig
 unfolding validTable
 valid-listed t h = and-eq-true-iff (settingsListed (t .origin .settings)) _ .0 h .0
 
-module _ (t : Table) (s : List ℕ) where
+module _ (t : Table) (bytes : List ℕ) where
   abbrev packet : Packet
-  packet = packetAt (typeAt (byte s 0)) s
+  packet = packetAt (typeAt (byte bytes 0)) bytes
 
   abbrev seen : State
-  seen = stateAt t (byte s 10)
+  seen = stateAt t (byte bytes 10)
 
   -- the table with what is stored of an outcome
-  abbrev after : Outcome → Taking
-  after r = record { table = pick (takes (r .answer)) (withState t (byte s 10) (recordGiven (r .answer) seen (r .length))) t; answer = r .answer }
+  abbrev outcomeTaking : Outcome → Taking
+  outcomeTaking r = record { table = pick (takes (r .answer)) (withState t (byte bytes 10) (recordGiven (r .answer) seen (r .length))) t; answer = r .answer }
 
-  piece-done : (room : ℕ) → after (pieceOutcome (t .origin) seen (pieceAt s) room) ≡ packetTaking t (completionIn s) room
+  piece-done : (room : ℕ) → outcomeTaking (pieceOutcome (t .origin) seen (pieceAt bytes) room) ≡ packetTaking t (completionIn bytes) room
   unfolding packetTaking
-  piece-done room = rw (← answer-piece (t .origin) seen (completionIn s) room (as-completion s), ← completion-tag s, stored-given t (completionIn s) _)
+  piece-done room = rw (← answer-piece (t .origin) seen (completionIn bytes) room (as-completion bytes), ← completion-tag bytes, stored-given t (completionIn bytes) _)
 
-  piece-left : (store : List ℕ) → pieceLaid (t .origin) seen (pieceAt s) (take (4 * pieceAt s .length) (drop 12 s)) store ≡ packetStore t (completionIn s) (payloadOf (completionIn s) s) store
+  piece-left : (store : List ℕ) → pieceLaid (t .origin) seen (pieceAt bytes) (take (4 * pieceAt bytes .length) (drop 12 bytes)) store ≡ packetStore t (completionIn bytes) (payloadOf (completionIn bytes) bytes) store
   unfolding packetStore
-  piece-left store = rw (completion-payload s, ← answer-piece (t .origin) seen (completionIn s) (length store) (as-completion s), ← completion-tag s)
+  piece-left store = rw (completion-payload bytes, ← answer-piece (t .origin) seen (completionIn bytes) (length store) (as-completion bytes), ← completion-tag bytes)
 
-  module _ (h : hasCompletion s ≡ true) (ok : settingsListed (t .origin .settings) ≡ true) where
-    completion-done : (room : ℕ) → after (completionOutcome (t .origin) seen s room) ≡ answerTaking t (readPacket (t .origin .settings) s) room
+  module _ (h : hasCompletion bytes ≡ true) (ok : settingsListed (t .origin .settings) ≡ true) where
+    completion-done : (room : ℕ) → outcomeTaking (completionOutcome (t .origin) seen bytes room) ≡ answerTaking t (readPacket (t .origin .settings) bytes) room
     unfolding completionOutcome readPacket pieceOf
-    completion-done room = rw (completion-rows s h (t .origin .settings) ok, completion-packet s h) (by (numberIn (t .origin) s))
+    completion-done room = rw (completion-rows bytes h (t .origin .settings) ok, completion-packet bytes h) (by (numberIn (t .origin) bytes))
       where
-        by : (n : ℕ) → after (numberedOutcome n (pieceOutcome (t .origin) seen (pieceAt s) room)) ≡ answerTaking t (answerOf n (completionIn s)) room
+        by : (n : ℕ) → outcomeTaking (numberedOutcome n (pieceOutcome (t .origin) seen (pieceAt bytes) room)) ≡ answerTaking t (answerOf n (completionIn bytes)) room
         by zero = piece-done room
         by (suc n) = refl
 
-    completion-left : (store : List ℕ) → completionLaid (t .origin) seen s store ≡ answerStore t (readPacket (t .origin .settings) s) s store
+    completion-left : (store : List ℕ) → completionLaid (t .origin) seen bytes store ≡ answerStore t (readPacket (t .origin .settings) bytes) bytes store
     unfolding completionLaid readPacket pieceOf
-    completion-left store = rw (completion-rows s h (t .origin .settings) ok, completion-packet s h) (by (numberIn (t .origin) s))
+    completion-left store = rw (completion-rows bytes h (t .origin .settings) ok, completion-packet bytes h) (by (numberIn (t .origin) bytes))
       where
-        by : (n : ℕ) → numberedLaid n (pieceLaid (t .origin) seen (pieceAt s) (take (4 * pieceAt s .length) (drop 12 s)) store) store ≡ answerStore t (answerOf n (completionIn s)) s store
+        by : (n : ℕ) → numberedLaid n (pieceLaid (t .origin) seen (pieceAt bytes) (take (4 * pieceAt bytes .length) (drop 12 bytes)) store) store ≡ answerStore t (answerOf n (completionIn bytes)) bytes store
         by zero = piece-left store
         by (suc n) = refl
 
-  module _ (h : hasCompletion s ≡ false) where
-    other-done : (room : ℕ) → after (kept (otherAnswer (first (readRows (t .origin .settings) s)))) ≡ answerTaking t (readPacket (t .origin .settings) s) room
+  module _ (h : hasCompletion bytes ≡ false) where
+    other-done : (room : ℕ) → outcomeTaking (kept (otherAnswer (first (readRows (t .origin .settings) bytes)))) ≡ answerTaking t (readPacket (t .origin .settings) bytes) room
     unfolding readPacket packetTaking
-    other-done room = by (first (readRows (t .origin .settings) s)) refl
+    other-done room = by (first (readRows (t .origin .settings) bytes)) refl
       where
-        by : (n : ℕ) → first (readRows (t .origin .settings) s) ≡ n → after (kept (otherAnswer n)) ≡ answerTaking t (answerOf n packet) room
-        by zero e = rw (answer-other (t .origin) (stateAt t (tagOf packet)) packet room (no-completion s (t .origin .settings) h e))
+        by : (n : ℕ) → first (readRows (t .origin .settings) bytes) ≡ n → outcomeTaking (kept (otherAnswer n)) ≡ answerTaking t (answerOf n packet) room
+        by zero e = rw (answer-other (t .origin) (stateAt t (tagOf packet)) packet room (no-completion bytes (t .origin .settings) h e))
         by (suc n) e = refl
 
-    other-left : (store : List ℕ) → store ≡ answerStore t (readPacket (t .origin .settings) s) s store
+    other-left : (store : List ℕ) → store ≡ answerStore t (readPacket (t .origin .settings) bytes) bytes store
     unfolding readPacket packetStore
-    other-left store = by (first (readRows (t .origin .settings) s)) refl
+    other-left store = by (first (readRows (t .origin .settings) bytes)) refl
       where
-        by : (n : ℕ) → first (readRows (t .origin .settings) s) ≡ n → store ≡ answerStore t (answerOf n packet) s store
-        by zero e = rw (answer-other (t .origin) (stateAt t (tagOf packet)) packet (length store) (no-completion s (t .origin .settings) h e))
+        by : (n : ℕ) → first (readRows (t .origin .settings) bytes) ≡ n → store ≡ answerStore t (answerOf n packet) bytes store
+        by zero e = rw (answer-other (t .origin) (stateAt t (tagOf packet)) packet (length store) (no-completion bytes (t .origin .settings) h e))
         by (suc n) e = refl
 
-  whole : (room : ℕ) → after (outcomeOf t (byte s 10) s room) ≡ takeCall t s room
+  call-is : (room : ℕ) → outcomeTaking (outcomeOf t (byte bytes 10) bytes room) ≡ takeCall t bytes room
   unfolding takeCall takeOutcome
-  whole room = go (validTable t) refl (hasCompletion s) refl
+  call-is room = go (validTable t) refl (hasCompletion bytes) refl
     where
-      go : (v : Bool) → validTable t ≡ v → (b : Bool) → hasCompletion s ≡ b
-          → after (pick v (pick b (completionOutcome (t .origin) seen s room) (kept (otherAnswer (first (readRows (t .origin .settings) s))))) (kept (Refused 11)))
-          ≡ pick v (answerTaking t (readPacket (t .origin .settings) s) room) (record { table = t; answer = Refused 11 })
+      go : (v : Bool) → validTable t ≡ v → (b : Bool) → hasCompletion bytes ≡ b
+          → outcomeTaking (pick v (pick b (completionOutcome (t .origin) seen bytes room) (kept (otherAnswer (first (readRows (t .origin .settings) bytes))))) (kept (Refused 11)))
+          ≡ pick v (answerTaking t (readPacket (t .origin .settings) bytes) room) (record { table = t; answer = Refused 11 })
       go true e true h = completion-done h (valid-listed t e) room
       go true e false h = other-done h room
       go false e b h = refl
 
-  left : (store : List ℕ) → laidOf t (byte s 10) s store ≡ takeStore t s store
+  store-is : (store : List ℕ) → laidOf t (byte bytes 10) bytes store ≡ takeStore t bytes store
   unfolding takeLaid takeStore
-  left store = go (validTable t) refl (hasCompletion s) refl
+  store-is store = go (validTable t) refl (hasCompletion bytes) refl
     where
-      go : (v : Bool) → validTable t ≡ v → (b : Bool) → hasCompletion s ≡ b
-          → pick v (pick b (completionLaid (t .origin) seen s store) store) store ≡ pick v (answerStore t (readPacket (t .origin .settings) s) s store) store
+      go : (v : Bool) → validTable t ≡ v → (b : Bool) → hasCompletion bytes ≡ b
+          → pick v (pick b (completionLaid (t .origin) seen bytes store) store) store ≡ pick v (answerStore t (readPacket (t .origin .settings) bytes) bytes store) store
       go true e true h = completion-left h (valid-listed t e) store
       go true e false h = other-left h store
       go false e b h = refl
 
-module _ (t : Table) (tag : ℕ) (v : Bool) (x : State) (e : v ≡ validTable t) (f : x ≡ stateAt t tag) (s : List ℕ) where
-  pub outcome-seen : (room : ℕ) (d : Outcome) → d ≡ takeOutcome v (t .origin) x s room → d ≡ outcomeOf t tag s room
+module _ (t : Table) (tag : ℕ) (v : Bool) (x : State) (e : v ≡ validTable t) (f : x ≡ stateAt t tag) (bytes : List ℕ) where
+  pub outcome-seen : (room : ℕ) (d : Outcome) → d ≡ takeOutcome v (t .origin) x bytes room → d ≡ outcomeOf t tag bytes room
   outcome-seen room d g = rw (e, f) at g
 
-  pub laid-seen : (store store′ : List ℕ) → store′ ≡ takeLaid v (t .origin) x s store → store′ ≡ laidOf t tag s store
+  pub laid-seen : (store store′ : List ℕ) → store′ ≡ takeLaid v (t .origin) x bytes store → store′ ≡ laidOf t tag bytes store
   laid-seen store store′ g = rw (e, f) at g
 
-module _ (o : Origin) (opened words s : List ℕ) (tag : ℕ) (e : tag ≡ byte s 10) where
-  module _ (room : ℕ) (d : Outcome) (g : d ≡ outcomeOf (tableOf o opened words) tag s room) (r : Bool) (h : r ≡ takes (d .answer)) where
-    outcome-is : after (tableOf o opened words) s d ≡ takeCall (tableOf o opened words) s room
-    outcome-is = ap (after (tableOf o opened words) s) (rw e at g) ∙ whole (tableOf o opened words) s room
+module _ (o : Origin) (opened words bytes : List ℕ) (tag : ℕ) (e : tag ≡ byte bytes 10) where
+  module _ (room : ℕ) (d : Outcome) (g : d ≡ outcomeOf (tableOf o opened words) tag bytes room) (r : Bool) (h : r ≡ takes (d .answer)) where
+    outcome-is : outcomeTaking (tableOf o opened words) bytes d ≡ takeCall (tableOf o opened words) bytes room
+    outcome-is = ap (outcomeTaking (tableOf o opened words) bytes) (rw e at g) ∙ call-is (tableOf o opened words) bytes room
 
     -- x is the record of the tag, y what is put in its place
     pub take-done : (opened′ words′ : List ℕ) (x y : State) → not r ≡ false → x ≡ stateAt (tableOf o opened words) tag → y ≡ recordGiven (d .answer) x (d .length)
-        → opened′ ≡ openedWith opened tag y → words′ ≡ wordsWith words tag y → record { table = tableOf o opened′ words′; answer = d .answer } ≡ takeCall (tableOf o opened words) s room
+        → opened′ ≡ openedWith opened tag y → words′ ≡ wordsWith words tag y → record { table = tableOf o opened′ words′; answer = d .answer } ≡ takeCall (tableOf o opened words) bytes room
     unfolding withState
     take-done opened′ words′ x y n k q l m = same ∙ outcome-is
       where
-        same : record { table = tableOf o opened′ words′; answer = d .answer } ≡ after (tableOf o opened words) s d
+        same : record { table = tableOf o opened′ words′; answer = d .answer } ≡ outcomeTaking (tableOf o opened words) bytes d
         same = rw (← e, ← h, not-false r n, l, m, q, k)
 
-    pub take-kept : not r ≡ true → record { table = tableOf o opened words; answer = d .answer } ≡ takeCall (tableOf o opened words) s room
+    pub take-kept : not r ≡ true → record { table = tableOf o opened words; answer = d .answer } ≡ takeCall (tableOf o opened words) bytes room
     take-kept n = same ∙ outcome-is
       where
-        same : record { table = tableOf o opened words; answer = d .answer } ≡ after (tableOf o opened words) s d
+        same : record { table = tableOf o opened words; answer = d .answer } ≡ outcomeTaking (tableOf o opened words) bytes d
         same = rw (← h, not-true r n)
 
-  pub take-left : (store store′ : List ℕ) → store′ ≡ laidOf (tableOf o opened words) tag s store → store′ ≡ takeStore (tableOf o opened words) s store
-  take-left store store′ g = rw e at g ∙ left (tableOf o opened words) s store
+  pub take-left : (store store′ : List ℕ) → store′ ≡ laidOf (tableOf o opened words) tag bytes store → store′ ≡ takeStore (tableOf o opened words) bytes store
+  take-left store store′ g = rw e at g ∙ store-is (tableOf o opened words) bytes store
 
 pub ruleset take-laws = (take-done, take-kept)

@@ -1,4 +1,6 @@
--- What a core leaves, as the call whose core it is leaves it: the table from the set and the words that were lent, and the answer.
+-- What open_lent, take_lent and withdraw_lent leave, as the call of the table leaves it: the table from the set and
+-- the words that were lent, and the answer. A reader must believe them: the equations of these functions are of such
+-- pairs.
 use Prim.Native.Nat.{ℕ}
 use mathlib.Core.List.{List}
 use Rattle.reads_rules.specs.declared.origin.Origin.{Origin}

@@ -1,4 +1,5 @@
--- Document 01: the table, its tags, and when "any call gives 11 first".
+-- Document 01: the table, its tags, and when "Any call gives 11 first". A reader must believe all of it: a table is
+-- its tags' records, by `stateAt`, and `validTable`, `sharesOpen` and `owedSum` are over these.
 use Prim.Native.Nat.{ℕ, _*_, _/_}
 use mathlib.Core.Bool.{Bool, _&&_}
 use mathlib.Core.List.{List}
@@ -16,7 +17,7 @@ use Rattle.reads.specs.declared.table.Table.{Table}
 
 -- the tags that may be opened are those below: "Tags run 0 to 31."
 unfoldable pub tagLimit : Settings → ℕ
-tagLimit s = 32
+tagLimit settings = 32
 
 -- "a new one has no tag open"
 unfoldable pub newTable : Origin → Table
@@ -32,11 +33,17 @@ stateAt t tag = stateBelow (tagLimit (t .origin .settings)) (t .opened) (t .word
 
 -- every change of a record
 unfoldable pub withState : Table → ℕ → State → Table
-withState t tag x = record { origin = t .origin; opened = openedWith (t .opened) tag x; words = wordsWith (t .words) tag x }
+withState t tag x = record {
+  origin = t .origin;
+  opened = openedWith (t .opened) tag x;
+  words = wordsWith (t .words) tag x;
+}
 
--- what 11 denies: "a table with a setting off the list, or an open record whose fields open would refuse .."
+-- what 11 denies: "a table with a setting off the list, or an open record whose fields open would refuse"
 unfoldable pub validTable : Table → Bool
-validTable t = settingsListed (t .origin .settings) && allBelow (tagLimit (t .origin .settings)) (λ u. validState (t .origin .settings) (stateAt t u))
+validTable t =
+    settingsListed (t .origin .settings)
+    && allBelow (tagLimit (t .origin .settings)) (λ u. validState (t .origin .settings) (stateAt t u))
 
 -- 24: "window shares a byte with an open read's window"
 unfoldable pub sharesOpen : Table → ReadRequest → Bool

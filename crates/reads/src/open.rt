@@ -2,9 +2,9 @@
 use crate::answer::OpenAnswer;
 use crate::table::Opening;
 use crate::table::Table;
-use crate::table::is_valid;
 use crate::table::state_at;
 use crate::table::tag_limit;
+use crate::table::valid_table;
 use reads_rules::origin::Origin;
 use reads_rules::read::Read;
 use reads_rules::request::ReadRequest;
@@ -28,13 +28,13 @@ ghost use Rattle.bits.specs.Choice.{pick};
 ghost use Rattle.tlp.specs.Rows.{row, first};
 ghost use Rattle.tlp_write.specs.Write.{layAnswer, layOut};
 ghost use Rattle.reads.specs.Tables.{tableOf, sharesOpen};
-ghost use Rattle.reads.specs.OpenCall.{headerPacket, earlyRows, openCall, openOut};
+ghost use Rattle.reads.specs.OpenCall.{headerPacket, openCall, openOut};
 ghost use Rattle.reads.specs.Lent.{openingOf};
-ghost use Rattle.reads.specs.Steps.{earlySeen, headerAnswer, opens};
+ghost use Rattle.reads.specs.Inner.Steps.{rowsBefore12, rowsBefore24, headerAnswer, opens};
 
 // The first that holds of open's rows before 24; 0 where none does. x is the tag's record.
-fn early_number(valid: bool, o: Origin, x: State, q: ReadRequest, tag: u32, room: u64) -> u32
-    ensures { λ n. ⌜ n ≡ first (earlySeen valid o x q tag room) ⌝ }
+fn number_before_24(valid: bool, o: Origin, x: State, q: ReadRequest, tag: u32, room: u64) -> u32
+    ensures { λ n. ⌜ n ≡ first (rowsBefore24 valid o x q tag room) ⌝ }
 {
     if !valid {
         return 11;
@@ -43,19 +43,21 @@ fn early_number(valid: bool, o: Origin, x: State, q: ReadRequest, tag: u32, room
     if given != 0 {
         return given;
     }
-    let s = o.settings;
-    if tag_limit(s) <= tag {
+    let settings = o.settings;
+    if tag_limit(settings) <= tag {
         return 20;
     }
     if is_open(x) {
         return 21;
     }
-    place_number(s, q, room)
+    place_number(settings, q, room)
 }
 
-// The same with 24. 12 is the writer's.
+// The number n of the rows before 24, or else 24 where the window is taken.
 fn window_number(n: u32, o: Origin, opened: &TagSet, words: &Words, q: ReadRequest) -> u32
-    ensures { λ m. ⌜ m ≡ pick (eqb n 0) (first (row 24 (sharesOpen (tableOf o (now (opened .entry)) (now (words .entry))) q) ∷ [])) n ⌝ }
+    ensures { λ m.
+        ⌜ m ≡ pick (eqb n 0)
+        (first (row 24 (sharesOpen (tableOf o (now (opened .entry)) (now (words .entry))) q) ∷ [])) n ⌝ }
 {
     if n != 0 {
         return n;
@@ -67,7 +69,7 @@ fn window_number(n: u32, o: Origin, opened: &TagSet, words: &Words, q: ReadReque
 }
 
 // The first that holds of open's rows before 12; 0 where none does.
-fn open_number(
+fn number_before_12(
     o: Origin,
     opened: &TagSet,
     words: &Words,
@@ -75,11 +77,11 @@ fn open_number(
     tag: u32,
     room: u64,
 ) -> u32
-    ensures { λ n. ⌜ n ≡ first (earlyRows (tableOf o (now (opened .entry)) (now (words .entry))) q tag room) ⌝ }
+    ensures { λ n. ⌜ n ≡ first (rowsBefore12 (tableOf o (now (opened .entry)) (now (words .entry))) q tag room) ⌝ }
 {
-    let valid = is_valid(o, opened, words);
-    let early = early_number(valid, o, state_at(o, opened, words, tag), q, tag, room);
-    window_number(early, o, opened, words, q)
+    let valid = valid_table(o, opened, words);
+    let n = number_before_24(valid, o, state_at(o, opened, words, tag), q, tag, room);
+    window_number(n, o, opened, words, q)
 }
 
 // The header over the front of the output. Open has tested the request's fields, so the writer need not.
@@ -87,15 +89,18 @@ fn write_header(o: Origin, q: ReadRequest, tag: u8, out: &mut [u8]) -> WriteAnsw
     ensures { λ a. ⌜ a ≡ layAnswer (o .settings .mps) (headerPacket o q tag) 0 (length (now (out .entry))) ⌝ }
     ensures { λ _. ⌜ now (out .exit) ≡ layOut (o .settings .mps) (headerPacket o q tag) [] (now (out .entry)) ⌝ }
 {
-    let s = o.settings;
-    lay_packet(s.mps, request_packet(o.requester, tag, q), b"", out)
+    let settings = o.settings;
+    lay_packet(settings.mps, request_packet(o.requester, tag, q), b"", out)
 }
 
 // What open answers, from the number of the rows before 12; without one the header is written.
 fn open_answer(n: u32, o: Origin, q: ReadRequest, tag: u32, out: &mut [u8]) -> OpenAnswer
     requires { ⌜ (n ≡ 0 → tag < 2 ^ 8) ⌝ }
-    ensures { λ a. ⌜ a ≡ headerAnswer n (layAnswer (o .settings .mps) (headerPacket o q tag) 0 (length (now (out .entry)))) ⌝ }
-    ensures { λ _. ⌜ now (out .exit) ≡ pick (eqb n 0) (layOut (o .settings .mps) (headerPacket o q tag) [] (now (out .entry))) (now (out .entry)) ⌝ }
+    ensures { λ a.
+        ⌜ a ≡ headerAnswer n (layAnswer (o .settings .mps) (headerPacket o q tag) 0 (length (now (out .entry)))) ⌝ }
+    ensures { λ _.
+        ⌜ now (out .exit) ≡ pick (eqb n 0)
+        (layOut (o .settings .mps) (headerPacket o q tag) [] (now (out .entry))) (now (out .entry)) ⌝ }
 {
     if n != 0 {
         return OpenAnswer::Refused(n);
@@ -127,10 +132,16 @@ pub fn open_lent(
     store: &[u8],
     out: &mut [u8],
 ) -> OpenAnswer
-    ensures { λ a. ⌜ openingOf o (now (opened .exit)) (now (words .exit)) a ≡ openCall (tableOf o (now (opened .entry)) (now (words .entry))) q tag (length (now (store .entry))) (length (now (out .entry))) ⌝ }
-    ensures { λ _. ⌜ now (out .exit) ≡ openOut (tableOf o (now (opened .entry)) (now (words .entry))) q tag (length (now (store .entry))) (now (out .entry)) ⌝ }
+    ensures { λ a.
+        ⌜ openingOf o (now (opened .exit)) (now (words .exit)) a
+        ≡ openCall (tableOf o (now (opened .entry)) (now (words .entry))) q tag
+        (length (now (store .entry))) (length (now (out .entry))) ⌝ }
+    ensures { λ _.
+        ⌜ now (out .exit)
+        ≡ openOut (tableOf o (now (opened .entry)) (now (words .entry))) q tag
+        (length (now (store .entry))) (now (out .entry)) ⌝ }
 {
-    let n = open_number(o, opened, words, q, tag, store.len() as u64);
+    let n = number_before_12(o, opened, words, q, tag, store.len() as u64);
     let answer = open_answer(n, o, q, tag, out);
     if !opens(answer) {
         return answer;

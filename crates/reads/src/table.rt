@@ -22,8 +22,9 @@ ghost use Rattle.reads.specs.Tables.{tagLimit, tableOf, stateAt, validTa
 ghost use Rattle.reads.specs.OtherCalls.{makeCall, withdrawRows, withdrawCall, owedCall};
 ghost use Rattle.reads.specs.Lent.{withdrawalOf};
 
-// Fields are public, so that a table that no call reaches can be made and tried. A table is given to nobody but its methods: who is given one
-// copies it. Each of them is a thin call of a core that is given the origin and lent set and words.
+// Fields are public, so that a table that no call reaches can be made and tried. A table is given to nobody but its
+// methods: who is given one copies it. Each of them is a thin call of a core that is given the origin and lent set
+// and words.
 pub struct Table {
     pub origin: Origin,
     pub opened: TagSet,
@@ -52,23 +53,24 @@ pub struct Withdrawal {
 }
 
 // The tags that may be opened are those below.
-pub(crate) fn tag_limit(s: Settings) -> u32
-    ensures { λ n. ⌜ n ≡ tagLimit s ⌝ }
+pub(crate) fn tag_limit(settings: Settings) -> u32
+    ensures { λ n. ⌜ n ≡ tagLimit settings ⌝ }
 {
     32
 }
 
 // Whether the table that the parts make is valid: what 11 denies.
-pub(crate) fn is_valid(o: Origin, opened: &TagSet, words: &Words) -> bool
+pub(crate) fn valid_table(o: Origin, opened: &TagSet, words: &Words) -> bool
     ensures { λ r. ⌜ r ≡ validTable (tableOf o (now (opened .entry)) (now (words .entry))) ⌝ }
 {
-    let s = o.settings;
-    if !settings_listed(s) {
+    let settings = o.settings;
+    if !settings_listed(settings) {
         return false;
     }
-    all_valid(s, tag_limit(s) as usize, opened, words)
+    all_valid(settings, tag_limit(settings) as usize, opened, words)
 }
 
+// The record of a tag, from the parts of a table.
 pub(crate) fn state_at(o: Origin, opened: &TagSet, words: &Words, tag: u32) -> State
     ensures { λ x. ⌜ x ≡ stateAt (tableOf o (now (opened .entry)) (now (words .entry))) tag ⌝ }
 {
@@ -79,7 +81,7 @@ pub(crate) fn state_at(o: Origin, opened: &TagSet, words: &Words, tag: u32) -> S
 fn withdraw_number(o: Origin, opened: &TagSet, words: &Words, tag: u32) -> u32
     ensures { λ n. ⌜ n ≡ first (withdrawRows (tableOf o (now (opened .entry)) (now (words .entry))) tag) ⌝ }
 {
-    if !is_valid(o, opened, words) {
+    if !valid_table(o, opened, words) {
         return 11;
     }
     if tag_limit(o.settings) <= tag {
@@ -94,7 +96,9 @@ fn withdraw_number(o: Origin, opened: &TagSet, words: &Words, tag: u32) -> u32
 
 // Withdraws a read, over what is lent of a table. Set and words change where it is accepted, and there alone.
 pub fn withdraw_lent(o: Origin, opened: &mut TagSet, words: &mut Words, tag: u32) -> WithdrawAnswer
-    ensures { λ a. ⌜ withdrawalOf o (now (opened .exit)) (now (words .exit)) a ≡ withdrawCall (tableOf o (now (opened .entry)) (now (words .entry))) tag ⌝ }
+    ensures { λ a.
+        ⌜ withdrawalOf o (now (opened .exit)) (now (words .exit)) a
+        ≡ withdrawCall (tableOf o (now (opened .entry)) (now (words .entry))) tag ⌝ }
 {
     let n = withdraw_number(o, opened, words, tag);
     if n != 0 {
@@ -108,7 +112,7 @@ pub fn withdraw_lent(o: Origin, opened: &mut TagSet, words: &mut Words, tag: u32
 pub fn owed_lent(o: Origin, opened: &TagSet, words: &Words) -> OwedAnswer
     ensures { λ r. ⌜ r ≡ owedCall (tableOf o (now (opened .entry)) (now (words .entry))) ⌝ }
 {
-    if !is_valid(o, opened, words) {
+    if !valid_table(o, opened, words) {
         return OwedAnswer::Refused(11);
     }
     OwedAnswer::Owed(tags_owed(tag_limit(o.settings) as usize, opened, words))
@@ -139,6 +143,7 @@ impl Table {
         }
     }
 
+    // Withdraws a read: its tag is free.
     pub fn withdraw(mut self, tag: u32) -> Withdrawal
         ensures { λ r. ⌜ r ≡ withdrawCall self tag ⌝ }
     {

@@ -1,8 +1,8 @@
 // Taking a completion.
 use crate::table::Table;
 use crate::table::Taking;
-use crate::table::is_valid;
 use crate::table::state_at;
+use crate::table::valid_table;
 use bits::word::byte_at;
 use reads_answers::TakeAnswer;
 use reads_answers::piece_answer;
@@ -31,7 +31,9 @@ ghost use Rattle.reads_answers.specs.Takes.{readIn};
 ghost use Rattle.reads.specs.Tables.{tableOf};
 ghost use Rattle.reads.specs.TakeCall.{advanced, storeGiven, takeCall, takeStore};
 ghost use Rattle.reads.specs.Lent.{takingOf};
-ghost use Rattle.reads.specs.Steps.{recordGiven, otherAnswer, pieceOutcome, completionOutcome, takeOutcome, outcomeOf, pieceLaid, completionLaid, takeLaid, laidOf, takes};
+ghost use Rattle.reads.specs.Inner.Steps.{recordGiven, otherAnswer, takes};
+ghost use Rattle.reads.specs.Inner.Steps.{pieceOutcome, completionOutcome, takeOutcome, outcomeOf};
+ghost use Rattle.reads.specs.Inner.Steps.{pieceLaid, completionLaid, takeLaid, laidOf};
 
 // A record after n doublewords more.
 fn advance(x: State, n: u32) -> State
@@ -87,10 +89,10 @@ fn store_given(a: TakeAnswer, r: Read, payload: &[u8], store: &mut [u8])
 }
 
 // The answer to bytes that hold no completion: the reader's number, or 29.
-fn other_answer(s: Settings, bytes: &[u8]) -> TakeAnswer
-    ensures { λ a. ⌜ a ≡ otherAnswer (first (readRows s (now (bytes .entry)))) ⌝ }
+fn other_answer(settings: Settings, bytes: &[u8]) -> TakeAnswer
+    ensures { λ a. ⌜ a ≡ otherAnswer (first (readRows settings (now (bytes .entry)))) ⌝ }
 {
-    let n = read_number(s, bytes);
+    let n = read_number(settings, bytes);
     if n != 0 {
         return TakeAnswer::Unread(Refusal { number: n });
     }
@@ -115,9 +117,9 @@ fn completion_outcome(o: Origin, x: State, bytes: &[u8], store: &mut [u8]) -> Ou
     ensures { λ r. ⌜ r ≡ completionOutcome o x (now (bytes .entry)) (length (now (store .entry))) ⌝ }
     ensures { λ _. ⌜ now (store .exit) ≡ completionLaid o x (now (bytes .entry)) (now (store .entry)) ⌝ }
 {
-    let s = o.settings;
+    let settings = o.settings;
     let c = piece_of(completion_packet(bytes));
-    let n = completion_number(s.mps, c.length, bytes);
+    let n = completion_number(settings.mps, c.length, bytes);
     if n != 0 {
         return Outcome {
             answer: TakeAnswer::Unread(Refusal { number: n }),
@@ -128,8 +130,8 @@ fn completion_outcome(o: Origin, x: State, bytes: &[u8], store: &mut [u8]) -> Ou
     piece_outcome(o, x, c, &bytes[12..end], store)
 }
 
-// What bytes do; x is the record of the tag that byte 10 names. A valid table has listed settings, so a completion is not read with a second test of
-// these.
+// What bytes do; x is the record of the tag that byte 10 names. A valid table has listed settings, so a completion is
+// not read with a second test of these.
 fn take_outcome(valid: bool, o: Origin, x: State, bytes: &[u8], store: &mut [u8]) -> Outcome
     ensures { λ r. ⌜ r ≡ takeOutcome valid o x (now (bytes .entry)) (length (now (store .entry))) ⌝ }
     ensures { λ _. ⌜ now (store .exit) ≡ takeLaid valid o x (now (bytes .entry)) (now (store .entry)) ⌝ }
@@ -158,10 +160,15 @@ fn outcome_of(
     bytes: &[u8],
     store: &mut [u8],
 ) -> Outcome
-    ensures { λ r. ⌜ r ≡ outcomeOf (tableOf o (now (opened .entry)) (now (words .entry))) tag (now (bytes .entry)) (length (now (store .entry))) ⌝ }
-    ensures { λ _. ⌜ now (store .exit) ≡ laidOf (tableOf o (now (opened .entry)) (now (words .entry))) tag (now (bytes .entry)) (now (store .entry)) ⌝ }
+    ensures { λ r.
+        ⌜ r ≡ outcomeOf (tableOf o (now (opened .entry)) (now (words .entry))) tag
+        (now (bytes .entry)) (length (now (store .entry))) ⌝ }
+    ensures { λ _.
+        ⌜ now (store .exit)
+        ≡ laidOf (tableOf o (now (opened .entry)) (now (words .entry))) tag
+        (now (bytes .entry)) (now (store .entry)) ⌝ }
 {
-    let valid = is_valid(o, opened, words);
+    let valid = valid_table(o, opened, words);
     take_outcome(valid, o, state_at(o, opened, words, tag), bytes, store)
 }
 
@@ -179,8 +186,8 @@ fn takes(a: TakeAnswer) -> bool
     }
 }
 
-// Takes a packet, over what is lent of a table. Set and words change where it is accepted, and there alone. A completion has its tag in byte 10; what is
-// none changes no record, so it does not matter which one is looked at.
+// Takes a packet, over what is lent of a table. Set and words change where it is accepted, and there alone. A
+// completion has its tag in byte 10; what is none changes no record, so it does not matter which one is looked at.
 pub fn take_lent(
     o: Origin,
     opened: &mut TagSet,
@@ -188,8 +195,14 @@ pub fn take_lent(
     bytes: &[u8],
     store: &mut [u8],
 ) -> TakeAnswer
-    ensures { λ a. ⌜ takingOf o (now (opened .exit)) (now (words .exit)) a ≡ takeCall (tableOf o (now (opened .entry)) (now (words .entry))) (now (bytes .entry)) (length (now (store .entry))) ⌝ }
-    ensures { λ _. ⌜ now (store .exit) ≡ takeStore (tableOf o (now (opened .entry)) (now (words .entry))) (now (bytes .entry)) (now (store .entry)) ⌝ }
+    ensures { λ a.
+        ⌜ takingOf o (now (opened .exit)) (now (words .exit)) a
+        ≡ takeCall (tableOf o (now (opened .entry)) (now (words .entry)))
+        (now (bytes .entry)) (length (now (store .entry))) ⌝ }
+    ensures { λ _.
+        ⌜ now (store .exit)
+        ≡ takeStore (tableOf o (now (opened .entry)) (now (words .entry)))
+        (now (bytes .entry)) (now (store .entry)) ⌝ }
 {
     let tag = byte_at(bytes, 10);
     let done = outcome_of(o, opened, words, tag as u32, bytes, store);

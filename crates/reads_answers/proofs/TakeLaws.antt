@@ -1,7 +1,7 @@
 -- Laws of what take answers, in the words of the returns.
 use Prim.Native.Nat.{ℕ, zero, suc, _+_, _-_, _≤_}
 use mathlib.Core.Path.{_≡_, refl, sym, _∙_}
-use mathlib.Core.Bool.{Bool, true, false, not, _||_, _&&_, and-eq-true-iff}
+use mathlib.Core.Bool.{Bool, true, false, not, _&&_, and-eq-true-iff}
 use native.Mathlib.Omega.{arith}
 use lib.Dec.{eqb, leb}
 use lib.ListN.{length}
@@ -18,7 +18,7 @@ use Rattle.reads_rules.specs.Pieces.{isCompletion, pieceOf}
 use Rattle.reads_rules.specs.Continuations.{cutAllowed, legal, succeeds, statusBad, differs, reported}
 use Rattle.reads_rules.specs.Validity.{owedOf}
 use Rattle.reads_slots.specs.declared.State.{State}
-use Rattle.reads_slots.specs.declared.State.the-variants.{Free, Open}
+use Rattle.reads_slots.specs.declared.State.the-variants.{Open}
 use Rattle.reads_slots.specs.Slots.{isOpen}
 use Rattle.reads_answers.specs.declared.TakeAnswer.{TakeAnswer}
 use Rattle.reads_answers.specs.declared.TakeAnswer.the-variants.{More, Done, Failed, Poisoned, Refused}
@@ -44,12 +44,12 @@ module _ (o : Origin) (x : State) (c : Piece) (room : ℕ) where
       unfolding first
       number-differs g = rw (eq-eqb (c .requester) (o .requester) same, ← e, h, ← k, ← f, g)
 
-      module _ (g : d ≡ false) (s : Bool) (l : s ≡ statusBad c) where
-        pub number-status : s ≡ true → 32 ≡ first (pieceRows o x c room)
+      module _ (g : d ≡ false) (bad : Bool) (l : bad ≡ statusBad c) where
+        pub number-status : bad ≡ true → 32 ≡ first (pieceRows o x c room)
         unfolding first
         number-status m = rw (eq-eqb (c .requester) (o .requester) same, ← e, h, ← k, ← f, g, ← l, m)
 
-        module _ (m : s ≡ false) (y : Bool) (n : y ≡ succeeds c) where
+        module _ (m : bad ≡ false) (y : Bool) (n : y ≡ succeeds c) where
           pub number-failed : not y ≡ true → 0 ≡ first (pieceRows o x c room)
           unfolding first
           number-failed q = rw (eq-eqb (c .requester) (o .requester) same, ← e, h, ← k, ← f, g, ← l, m, ← n, not-true y q)
@@ -131,11 +131,6 @@ more-success : (b c d : Bool) (n : ℕ) → pick b (pick c Poisoned (pick d Done
 more-success true c d n e = refl
 more-success false c d n e = let z : _≡_ {A = ℕ} 0 1 = cc in absurd (omega arith)
 
-open-state : (a b : Bool) (x : State) → b ≡ isOpen x → (a || not b) ≡ false → x ≡ Open (readIn x)
-open-state a b (Open r) e h = refl
-open-state true b Free e h = let z : _≡_ {A = ℕ} 0 1 = cc in absurd (omega arith)
-open-state false b Free e h = let z : _≡_ {A = ℕ} 0 1 = cc in absurd (omega arith)
-
 cut-end : (rcb l p n : ℕ) (b : Bool) → ((leb 1 n && leb n (l - p)) && b) ≡ true → p + n ≤ l
 cut-end rcb l p n b e =
     let f = and-eq-true-iff (leb 1 n && leb n (l - p)) b .0 e .0 in
@@ -145,19 +140,16 @@ cut-end rcb l p n b e =
     omega arith
 
 module _ (o : Origin) (x : State) (p : Packet) (room : ℕ) (a : TakeAnswer) (e : a ≡ packetAnswer o x p room) (h : a ≡ More) where
-  both : (first (ownRows o x p room) ≡ 0) × (outcome (readIn x) (pieceOf p) ≡ More)
+  more-means : (first (ownRows o x p room) ≡ 0) × (outcome (readIn x) (pieceOf p) ≡ More)
   unfolding packetAnswer
-  both = more-number (first (ownRows o x p room)) (outcome (readIn x) (pieceOf p)) (sym e ∙ h)
+  more-means = more-number (first (ownRows o x p room)) (outcome (readIn x) (pieceOf p)) (sym e ∙ h)
 
   none-hold : NoneHold (ownRows o x p room)
-  none-hold = first-none (ownRows o x p room) refl (both .0)
+  none-hold = first-none (ownRows o x p room) refl (more-means .0)
 
   success : succeeds (pieceOf p) ≡ true
   unfolding outcome
-  success = more-success (succeeds (pieceOf p)) (pieceOf p .poisoned) (eqb (pieceOf p .length) (owedOf (readIn x))) (reported (pieceOf p .header .status)) (both .1)
-
-  pub more-open : x ≡ Open (readIn x)
-  more-open = open-state (not (eqb (pieceOf p .requester) (o .requester))) (isOpen x) x refl (none-hold .1 .0)
+  success = more-success (succeeds (pieceOf p)) (pieceOf p .poisoned) (eqb (pieceOf p .length) (owedOf (readIn x))) (reported (pieceOf p .header .status)) (more-means .1)
 
   is-legal : legal o (readIn x) (pieceOf p) ≡ true
   is-legal =

@@ -1,4 +1,6 @@
--- Document 01, take: what it answers to a packet that was read, from the record of its tag.
+-- Document 01, take: "Refused: any reader number; 29 not Cpl or CplD" up to "otherwise More": what it answers to a
+-- packet that was read, from the record of its tag. A reader must believe `ownRows` (29 to 34), `outcome` and
+-- `packetAnswer`; `pieceAnswer` is the same of a packet that is known to be a completion.
 use Prim.Native.Nat.{ℕ, zero, suc}
 use mathlib.Core.Bool.{not, _||_, _&&_}
 use mathlib.Core.List.{List, [], _∷_}
@@ -19,13 +21,19 @@ use Rattle.reads_slots.specs.Slots.{isOpen}
 use Rattle.reads_answers.specs.declared.TakeAnswer.{TakeAnswer}
 use Rattle.reads_answers.specs.declared.TakeAnswer.the-variants.{More, Done, Failed, Poisoned, Refused}
 
--- the read that a record holds; zeros where it is free
+-- what a free record holds
 abbrev pub noRead : Read
 noRead = record {
-  request = record { access = record { address = 0; length = 0; first = 0; last = 0 }; «traffic_class» = 0; attributes = 0; start = 0 };
+  request = record {
+    access = record { address = 0; length = 0; first = 0; last = 0 };
+    «traffic_class» = 0;
+    attributes = 0;
+    start = 0;
+  };
   taken = 0;
 }
 
+-- the read that a record holds
 abbrev pub readIn : State → Read
 readIn Free = noRead
 readIn (Open r) = r
@@ -34,8 +42,8 @@ readIn (Open r) = r
 abbrev pub tagOf : Packet → ℕ
 tagOf p = pieceOf p .header .tag
 
--- 30 to 34, of a completion; x is the record of its tag, room the store's length. "30 requester ID is not the table's, or no such tag is open";
--- 33 and 34 come after Failed, so they are asked of status 000 alone
+-- 30 to 34, of a completion; x is the record of its tag, room the store's length. "30 requester ID is not the
+-- table's, or no such tag is open"; 33 and 34 come after Failed, so they are asked of status 000 alone
 abbrev pub pieceRows : Origin → State → Piece → ℕ → List Row
 pieceRows o x c room =
     row 30 (not (eqb (c .requester) (o .requester)) || not (isOpen x))
@@ -49,11 +57,15 @@ pieceRows o x c room =
 abbrev pub ownRows : Origin → State → Packet → ℕ → List Row
 ownRows o x p room = row 29 (not (isCompletion p)) ∷ pieceRows o x (pieceOf p) room
 
--- the answer to a completion that has no number: "A failing status .. answers Failed with the status"; "a poisoned one .. Poisoned"; "Done when
--- n = L - p .. otherwise More"
+-- the answer to a completion that has no number: "A failing status .. answers Failed with the status"; "A poisoned
+-- one .. answers Poisoned"; "Done when n = L - p .. otherwise More"
 unfoldable pub outcome : Read → Piece → TakeAnswer
-outcome r c = pick (succeeds c) (pick (c .poisoned) Poisoned (pick (eqb (c .length) (owedOf r)) Done More)) (Failed (reported (c .header .status)))
+outcome r c =
+    pick (succeeds c)
+    (pick (c .poisoned) Poisoned (pick (eqb (c .length) (owedOf r)) Done More))
+    (Failed (reported (c .header .status)))
 
+-- a number is answered before anything else
 abbrev pub numberOr : ℕ → TakeAnswer → TakeAnswer
 numberOr zero x = x
 numberOr (suc n) x = Refused (suc n)

@@ -1,10 +1,10 @@
 // What take answers to a packet, from the record of its tag.
 use byte_enables::Access;
-use reads_rules::continuation::differs_from;
-use reads_rules::continuation::has_success;
-use reads_rules::continuation::is_legal;
-use reads_rules::continuation::reported_status;
+use reads_rules::continuation::differs;
+use reads_rules::continuation::legal;
+use reads_rules::continuation::reported;
 use reads_rules::continuation::status_bad;
+use reads_rules::continuation::succeeds;
 use reads_rules::origin::Origin;
 use reads_rules::piece::Piece;
 use reads_rules::read::Read;
@@ -18,7 +18,8 @@ ghost use mathlib.Core.Path.{_≡_};
 ghost use Rattle.tlp.specs.Rows.{first};
 ghost use Rattle.reads_answers.specs.Takes.{readIn, pieceRows, outcome, pieceAnswer};
 
-// Unread is the packet reader's own refusal, passed on whole.
+// What take answers: Failed with the status, Unread with the packet reader's own refusal, Refused with a number of the
+// table's.
 pub enum TakeAnswer {
     More,
     Done,
@@ -62,16 +63,16 @@ fn piece_number(o: Origin, x: State, c: Piece, room: u64) -> u32
         return 30;
     }
     let r = read_in(x);
-    if differs_from(r, c) {
+    if differs(r, c) {
         return 31;
     }
     if status_bad(c) {
         return 32;
     }
-    if !has_success(c) {
+    if !succeeds(c) {
         return 0;
     }
-    if !is_legal(o, r, c) {
+    if !legal(o, r, c) {
         return 33;
     }
     if !holds_window(r.request, room) {
@@ -81,12 +82,12 @@ fn piece_number(o: Origin, x: State, c: Piece, room: u64) -> u32
 }
 
 // The answer to a completion that has no number.
-fn outcome_of(r: Read, c: Piece) -> TakeAnswer
+fn outcome(r: Read, c: Piece) -> TakeAnswer
     ensures { λ a. ⌜ a ≡ outcome r c ⌝ }
 {
     let h = c.header;
-    if !has_success(c) {
-        return TakeAnswer::Failed(reported_status(h.status));
+    if !succeeds(c) {
+        return TakeAnswer::Failed(reported(h.status));
     }
     if c.poisoned {
         return TakeAnswer::Poisoned;
@@ -105,5 +106,5 @@ pub fn piece_answer(o: Origin, x: State, c: Piece, room: u64) -> TakeAnswer
     if n != 0 {
         return TakeAnswer::Refused(n);
     }
-    outcome_of(read_in(x), c)
+    outcome(read_in(x), c)
 }

@@ -12,7 +12,7 @@ use Rattle.reads_rules.specs.declared.origin.Origin.{Origin}
 use Rattle.reads_slots.specs.declared.State.{State}
 use Rattle.reads_slots.specs.declared.State.the-variants.{Free}
 use Rattle.reads_words.specs.Capacity.{capacity}
-use Rattle.reads_slots.specs.Records.{FitsIn}
+use Rattle.reads_slots.specs.Inner.Fits.{FitsIn}
 use Rattle.reads_slots.proofs.RecordLaws.{length-opened, length-words, record-empty, record-same, below-in, below-over, below-free, below-fits, below-other}
 use Rattle.reads.specs.declared.table.Table.{Table}
 use Rattle.reads.proofs.TableLaws.{limit-fits}

@@ -10,7 +10,7 @@ use Rattle.bits.specs.Choice.{pick}
 use Rattle.reads_rules.specs.declared.origin.Origin.{Origin}
 use Rattle.reads_slots.specs.declared.State.{State}
 use Rattle.reads_slots.specs.declared.State.the-variants.{Free}
-use Rattle.reads_slots.specs.Records.{FitsIn}
+use Rattle.reads_slots.specs.Inner.Fits.{FitsIn}
 use Rattle.reads.specs.declared.table.Table.{Table}
 use Rattle.reads.specs.Tables.{tagLimit, newTable, stateAt, withState}
 use Rattle.reads.proofs.TableLaws.{with-order, with-last, new-freed}

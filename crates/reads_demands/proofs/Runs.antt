@@ -21,7 +21,7 @@ use Rattle.reads_rules.specs.Pieces.{pieceIn}
 use Rattle.reads_slots.specs.declared.State.{State}
 use Rattle.reads_slots.specs.declared.State.the-variants.{Free, Open}
 use Rattle.reads_slots.specs.Slots.{validState, sharesIn}
-use Rattle.reads_slots.specs.Records.{FitsIn}
+use Rattle.reads_slots.specs.Inner.Fits.{FitsIn}
 use Rattle.reads_slots.proofs.RecordLaws.{free-fits, open-fits}
 use Rattle.reads.specs.declared.table.Table.{Table}
 use Rattle.reads.specs.TakeCall.{advanced}

@@ -1,5 +1,6 @@
--- What each call answers, and leaves in the table and in what else is lent to it to change: what the core makes of the table as it was, refused calls included.
--- The contracts state these, and `reads_in_place_demands` builds its runs of them.
+-- What each call answers, and leaves in the table and in what else is lent to it to change: what the core makes of
+-- the table as it was, refused calls included. The contracts state these, and `reads_in_place_demands` builds its
+-- runs of them.
 use Prim.Native.Nat.{ℕ}
 use mathlib.Core.Path.{_≡_}
 use mathlib.Core.List.{List}

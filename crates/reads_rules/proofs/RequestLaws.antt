@@ -18,6 +18,7 @@ use Rattle.byte_enables.specs.Enables.{enablesAllowed}
 use Rattle.reads_rules.specs.Requests.{requestPacket, givenBad}
 use Rattle.reads_rules.specs.Windows.{storeLimit, placeBad}
 use Rattle.reads_rules.specs.Validity.{validRead, owedOf}
+use Rattle.reads_rules.specs.Inner.Faults.{fieldsOver, reachBad}
 use Rattle.reads_rules.proofs.WindowLaws.{below}
 use Rattle.reads_rules.specs.declared.request.ReadRequest.{ReadRequest}
 use Rattle.reads_rules.specs.declared.read.Read.{Read}
@@ -42,13 +43,10 @@ six false false false false false true g h = rw h
 six false false false false false false g h = rw h
 
 module _ (q : ReadRequest) where
-  abbrev over : Bool
-  over = leb 8 (q .«traffic_class») || (leb 8 (q .attributes) || (leb 16 (q .access .first) || leb 16 (q .access .last)))
-
   abbrev unaligned : Bool
   unaligned = not (eqb (q .access .address % 4) 0)
 
-  pub given-law : (r : Bool) → q .access .address < 2 ^ 64 → r ≡ (over || (lengthBad (q .access .length) || unaligned)) → r ≡ givenBad q
+  pub given-law : (r : Bool) → q .access .address < 2 ^ 64 → r ≡ (fieldsOver q || (lengthBad (q .access .length) || unaligned)) → r ≡ givenBad q
   unfolding givenBad first requestPacket commonBad ownBad requestBad reservedGiven routeBad addressRouteBad typeOf
   given-law r h e =
       rw (lt-leb (2 ^ 64) (q .access .address) h, plain-form)
@@ -84,7 +82,7 @@ decided false false false false false true false false h = refl
 decided false false false false false false true false h = refl
 decided false false false false false false false false h = refl
 
-module _ (s : Settings) (x : Read) where
+module _ (settings : Settings) (x : Read) where
   -- a length that p is below and that stays within its page
   length-good : leb (x .request .access .length) (x .taken) ≡ false → crossesPage (x .request .access) ≡ false → lengthBad (x .request .access .length) ≡ false
   length-good t c =
@@ -93,24 +91,23 @@ module _ (s : Settings) (x : Read) where
       rw (le-leb 1 (x .request .access .length) (omega arith), le-leb (x .request .access .length) 1024 (omega arith))
 
   abbrev bad : Bool
-  bad = over (x .request) || (unaligned (x .request) || (leb (x .request .access .length) (x .taken) || (crossesPage (x .request .access)
-      || (ltb (s .mrrs) (4 * x .request .access .length) || (placeBad (x .request) storeLimit || not (enablesAllowed (x .request .access)))))))
+  bad = fieldsOver (x .request) || (unaligned (x .request) || (leb (x .request .access .length) (x .taken) || reachBad settings (x .request)))
 
-  not-bad : x .request .access .address < 2 ^ 64 → not bad ≡ validRead s x
+  not-bad : x .request .access .address < 2 ^ 64 → not bad ≡ validRead settings x
   unfolding validRead first enablesBad pageBad
   not-bad h =
       rw (← given-law (x .request) _ h refl, below (x .taken) (x .request .access .length))
-      (decided (over (x .request)) (unaligned (x .request)) (leb (x .request .access .length) (x .taken)) (crossesPage (x .request .access)) (ltb (s .mrrs) (4 * x .request .access .length))
+      (decided (fieldsOver (x .request)) (unaligned (x .request)) (leb (x .request .access .length) (x .taken)) (crossesPage (x .request .access)) (ltb (settings .mrrs) (4 * x .request .access .length))
       (placeBad (x .request) storeLimit) (enablesAllowed (x .request .access)) (lengthBad (x .request .access .length)) length-good)
 
-  pub bad-law : (b : Bool) → x .request .access .address < 2 ^ 64 → b ≡ bad → b ≡ not (validRead s x)
+  pub bad-law : (b : Bool) → x .request .access .address < 2 ^ 64 → b ≡ bad → b ≡ not (validRead settings x)
   bad-law b h e = rw (← not-bad h, Bool·not-not) e
 
 pub not-same : (r b : Bool) → r ≡ b → not r ≡ not b
 not-same r b e = rw e
 
-pub valid-not-bad : (s : Settings) (x : Read) (b : Bool) → b ≡ not (validRead s x) → not b ≡ validRead s x
-valid-not-bad s x b e = rw e (Bool·not-not (validRead s x))
+pub valid-not-bad : (settings : Settings) (x : Read) (b : Bool) → b ≡ not (validRead settings x) → not b ≡ validRead settings x
+valid-not-bad settings x b e = rw e (Bool·not-not (validRead settings x))
 
 pub owed-none : (r : Read) → r .request .access .length < r .taken → 0 ≡ owedOf r
 unfolding owedOf

@@ -1,12 +1,11 @@
 -- Laws of windows, in the words of the returns.
 use Prim.Native.Nat.{ℕ, _+_, _-_, _*_, _%_, _≤_, _<_}
-use mathlib.Core.Path.{_≡_, refl, sym, _∙_}
-use mathlib.Core.Logic.{_⊎_, inl, inr}
-use mathlib.Core.Bool.{Bool, true, false, _||_, _&&_, not, Bool·not-not}
+use mathlib.Core.Path.{_≡_, refl, sym}
+use mathlib.Core.Bool.{Bool, true, false, not, Bool·not-not}
 use native.Mathlib.Omega.{arith}
 use lib.Dec.{eqb, leb, ltb}
 use borrow.Author.Tests.{lt-ltb, le-ltb, le-leb, lt-leb, eq-eqb, ne-eqb, leb-true, leb-false, ltb-true, ltb-false}
-use Rattle.reads_rules.specs.Windows.{storeLimit, windowEnd, placeBad, sharesByte, holdsWindow}
+use Rattle.reads_rules.specs.Windows.{storeLimit, placeBad, sharesByte, holdsWindow}
 use Rattle.reads_rules.specs.declared.request.ReadRequest.{ReadRequest}
 
 -- the two tests of an order deny each other

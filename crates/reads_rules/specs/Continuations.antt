@@ -1,4 +1,6 @@
--- Document 01: "A completion of n DWs legally continues when .."; A is the address, L the length, p the doublewords already taken.
+-- Document 01, of a completion that continues a read: "Let A be the address, L the length, p the DWs already taken."
+-- A reader must believe all of it: `legal` is 33's, `differs` 31's, `statusBad` 32's, `reported` what Failed answers,
+-- `clean` demand 3's.
 use Prim.Native.Nat.{ℕ, _+_, _-_, _*_, _%_}
 use mathlib.Core.Bool.{Bool, _||_, _&&_, not}
 use lib.Dec.{eqb, leb}
@@ -23,7 +25,7 @@ cutAllowed rcb a p n =
     (leb 1 n && leb n (a .length - p))
     && (eqb n (a .length - p) || eqb ((a .address + 4 * p + 4 * n) % rcb) 0)
 
--- "legally continues"
+-- "A completion of n DWs legally continues"
 unfoldable pub legal : Origin → Read → Piece → Bool
 legal o r c =
     cutAllowed (o .settings .rcb) (r .request .access) (r .taken) (c .length)
@@ -43,7 +45,9 @@ statusBad c =
 
 -- 31: "TC or any Attr bit differs from the read's"
 unfoldable pub differs : Read → Piece → Bool
-differs r c = not (eqb (c .«traffic_class») (r .request .«traffic_class»)) || not (eqb (c .attributes) (r .request .attributes))
+differs r c =
+    not (eqb (c .«traffic_class») (r .request .«traffic_class»))
+    || not (eqb (c .attributes) (r .request .attributes))
 
 -- the status that Failed answers: "001, 100 and reserved ones, which report as 001"
 unfoldable pub reported : ℕ → ℕ

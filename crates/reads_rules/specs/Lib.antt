@@ -3,3 +3,4 @@ pub mod Windows
 pub mod Validity
 pub mod Pieces
 pub mod Continuations
+pub mod Inner

@@ -1,5 +1,5 @@
--- What a packet says as a completion.
-use Prim.Native.Nat.{ℕ}
+-- Document 01, take: "not Cpl or CplD", and the fields that its rules ask of a completion. A reader must believe
+-- `isCompletion` (29) and `pieceOf`.
 use mathlib.Core.Bool.{Bool, true, false}
 use mathlib.Core.List.{List}
 use Rattle.tlp.specs.PacketTypes.{hasData, familyOf}

@@ -1,4 +1,5 @@
--- Document 01, open: "It is refused, in this order: 6, 7, 8 as the writer".
+-- Document 01, open: "It is refused, in this order: 6, 7, 8 as the writer". A reader must believe all of it:
+-- `requestRows` are these three rows, `requestPacket` the packet whose header is written.
 use Prim.Native.Nat.{ℕ}
 use mathlib.Core.Bool.{Bool, false}
 use mathlib.Core.List.{List, [], _∷_}
@@ -21,7 +22,13 @@ requestPacket requester tag q = record {
   «has_digest» = false;
   digest = 0;
   route = Address (q .access .address);
-  kind = MemoryRead (record { requester = requester; tag = tag; length = q .access .length; first = q .access .first; last = q .access .last });
+  kind = MemoryRead (record {
+    requester = requester;
+    tag = tag;
+    length = q .access .length;
+    first = q .access .first;
+    last = q .access .last;
+  });
 }
 
 -- the writer's first place for 6; "a tag never gives 6 here", nor does the table's requester ID, so both are left 0

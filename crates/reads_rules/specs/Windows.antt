@@ -1,4 +1,5 @@
--- Document 01: a read's window, the bytes of the store from its start on, four for each doubleword.
+-- Document 01: a read's window, the bytes of the store from its start on, four for each doubleword. A reader must
+-- believe all of it: `placeRows` are 22 and 23, `sharesByte` is 24's, `holdsWindow` what 34 denies.
 use Prim.Native.Nat.{ℕ, _+_, _*_, _%_}
 use mathlib.Core.Bool.{Bool, _||_, _&&_, not}
 use mathlib.Core.List.{List, [], _∷_}
@@ -21,8 +22,8 @@ placeBad q room = ltb storeLimit room || (not (eqb (q .start % 4) 0) || ltb room
 
 -- 22 and 23, with a store of room bytes: "22 4 x length over MRRS"
 abbrev pub placeRows : Settings → ReadRequest → ℕ → List Row
-placeRows s q room =
-    row 22 (ltb (s .mrrs) (4 * q .access .length))
+placeRows settings q room =
+    row 22 (ltb (settings .mrrs) (4 * q .access .length))
     ∷ row 23 (placeBad q room)
     ∷ []
 

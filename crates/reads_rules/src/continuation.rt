@@ -73,7 +73,8 @@ fn on_multiple(m: u64, address: u64, bytes: u64) -> bool
     (address % m + bytes % m) % m == 0
 }
 
-// Whether address + bytes is a multiple of the read completion boundary. The listed ones are powers of two, which are not divided by.
+// Whether address + bytes is a multiple of the read completion boundary. The listed ones are powers of two, which are
+// not divided by.
 fn on_boundary(rcb: u32, address: u64, bytes: u64) -> bool
     ensures { λ r. ⌜ r ≡ eqb ((address + bytes) % rcb) 0 ⌝ }
 {
@@ -109,17 +110,18 @@ pub fn cut_allowed(rcb: u32, a: Access, p: u32, n: u32) -> bool
     on_boundary(rcb, a.address, 4 * p as u64 + 4 * n as u64)
 }
 
-// Whether a completion legally continues a read. What stands before the first enabled byte is asked once, for both fields.
-pub fn is_legal(o: Origin, r: Read, c: Piece) -> bool
+// Whether a completion legally continues a read. What stands before the first enabled byte is asked once, for both
+// fields.
+pub fn legal(o: Origin, r: Read, c: Piece) -> bool
     ensures { λ b. ⌜ b ≡ legal o r c ⌝ }
 {
-    let s = o.settings;
+    let settings = o.settings;
     let q = r.request;
     let a = q.access;
     let h = c.header;
     let p = r.taken;
     let off = off_at(a, p);
-    if !cut_allowed(s.rcb, a, p, c.length) {
+    if !cut_allowed(settings.rcb, a, p, c.length) {
         return false;
     }
     if h.byte_count as u64 != count_from(a, p, off) {
@@ -129,7 +131,7 @@ pub fn is_legal(o: Origin, r: Read, c: Piece) -> bool
 }
 
 // Whether the status is 000.
-pub fn has_success(c: Piece) -> bool
+pub fn succeeds(c: Piece) -> bool
     ensures { λ b. ⌜ b ≡ succeeds c ⌝ }
 {
     let h = c.header;
@@ -154,7 +156,7 @@ pub fn status_bad(c: Piece) -> bool
 }
 
 // What 31 is given for.
-pub fn differs_from(r: Read, c: Piece) -> bool
+pub fn differs(r: Read, c: Piece) -> bool
     ensures { λ b. ⌜ b ≡ differs r c ⌝ }
 {
     let q = r.request;
@@ -165,7 +167,7 @@ pub fn differs_from(r: Read, c: Piece) -> bool
 }
 
 // The status that Failed answers.
-pub fn reported_status(status: u8) -> u8
+pub fn reported(status: u8) -> u8
     ensures { λ n. ⌜ n ≡ reported status ⌝ }
 {
     if status == 0b100 {

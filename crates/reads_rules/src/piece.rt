@@ -20,6 +20,7 @@ pub struct Piece {
     pub header: CompletionHeader,
 }
 
+// What header_in gives for a packet that is no completion.
 fn no_header() -> CompletionHeader
     ensures { λ c. ⌜ c ≡ noHeader ⌝ }
 {
@@ -33,6 +34,7 @@ fn no_header() -> CompletionHeader
     }
 }
 
+// The fields that only completions have.
 fn header_in(k: Kind) -> CompletionHeader
     ensures { λ c. ⌜ c ≡ headerIn k ⌝ }
 {

@@ -8,12 +8,12 @@ use tlp::packet::Request;
 use tlp::packet::Route;
 use tlp_writable::outside_of;
 ghost use mathlib.Core.Path.{_≡_};
-ghost use mathlib.Core.Bool.{_||_};
-ghost use lib.Dec.{leb};
 ghost use Rattle.tlp.specs.Rows.{first};
 ghost use Rattle.reads_rules.specs.Requests.{requestPacket, givenBad, requestRows};
+ghost use Rattle.reads_rules.specs.Inner.Faults.{fieldsOver};
 
-// What open gets of a read: address, length and enables, traffic class, attributes, and where its window starts in the store.
+// What open gets of a read: address, length and enables, traffic class, attributes, and where its window starts in
+// the store.
 pub struct ReadRequest {
     pub access: Access,
     pub traffic_class: u8,
@@ -45,7 +45,7 @@ pub fn request_packet(requester: u16, tag: u8, q: ReadRequest) -> Packet
 
 // Whether a number other than address and length exceeds its field.
 pub(crate) fn fields_over(q: ReadRequest) -> bool
-    ensures { λ r. ⌜ r ≡ (leb 8 (q .«traffic_class») || (leb 8 (q .attributes) || (leb 16 (q .access .first) || leb 16 (q .access .last)))) ⌝ }
+    ensures { λ r. ⌜ r ≡ fieldsOver q ⌝ }
 {
     let a = q.access;
     if 8 <= q.traffic_class {

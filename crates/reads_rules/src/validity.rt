@@ -2,40 +2,38 @@
 use crate::read::Read;
 use crate::request::ReadRequest;
 use crate::request::fields_over;
+use crate::window::STORE_LIMIT;
 use crate::window::over_request_size;
 use crate::window::place_bad;
 use byte_enables::enables_allowed;
 use tlp::content::crosses_page;
 use tlp::settings::Settings;
 ghost use mathlib.Core.Path.{_≡_};
-ghost use mathlib.Core.Bool.{_||_, not};
-ghost use Prim.Native.Nat.{_*_};
-ghost use lib.Dec.{ltb};
-ghost use Rattle.byte_enables.specs.Enables.{enablesAllowed};
-ghost use Rattle.tlp.specs.Contents.{crossesPage};
-ghost use Rattle.reads_rules.specs.Windows.{storeLimit, placeBad};
+ghost use mathlib.Core.Bool.{not};
 ghost use Rattle.reads_rules.specs.Validity.{validRead, owedOf};
+ghost use Rattle.reads_rules.specs.Inner.Faults.{reachBad};
 
 // 8, 22, 23 and 7, with the longest store.
-fn reach_bad(s: Settings, q: ReadRequest) -> bool
-    ensures { λ b. ⌜ b ≡ (crossesPage (q .access) || (ltb (s .mrrs) (4 * q .access .length) || (placeBad q storeLimit || not (enablesAllowed (q .access))))) ⌝ }
+fn reach_bad(settings: Settings, q: ReadRequest) -> bool
+    ensures { λ b. ⌜ b ≡ reachBad settings q ⌝ }
 {
     let a = q.access;
     if crosses_page(a) {
         return true;
     }
-    if over_request_size(s, q) {
+    if over_request_size(settings, q) {
         return true;
     }
-    if place_bad(q, 65536) {
+    if place_bad(q, STORE_LIMIT) {
         return true;
     }
     !enables_allowed(a)
 }
 
-// What no valid record has. Of the length nothing is asked: one that p is below and that stays within its page is 1 to 1024.
-fn read_bad(s: Settings, r: Read) -> bool
-    ensures { λ b. ⌜ b ≡ not (validRead s r) ⌝ }
+// What no valid record has. Of the length nothing is asked: one that p is below and that stays within its page is 1
+// to 1024.
+fn read_bad(settings: Settings, r: Read) -> bool
+    ensures { λ b. ⌜ b ≡ not (validRead settings r) ⌝ }
 {
     let q = r.request;
     let a = q.access;
@@ -48,14 +46,14 @@ fn read_bad(s: Settings, r: Read) -> bool
     if a.length <= r.taken {
         return true;
     }
-    reach_bad(s, q)
+    reach_bad(settings, q)
 }
 
 // Whether open would accept the read's fields, with the longest store, and part of it is still owed.
-pub fn read_valid(s: Settings, r: Read) -> bool
-    ensures { λ b. ⌜ b ≡ validRead s r ⌝ }
+pub fn valid_read(settings: Settings, r: Read) -> bool
+    ensures { λ b. ⌜ b ≡ validRead settings r ⌝ }
 {
-    !read_bad(s, r)
+    !read_bad(settings, r)
 }
 
 // The doublewords still owed.

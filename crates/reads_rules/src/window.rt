@@ -5,7 +5,10 @@ ghost use mathlib.Core.Path.{_≡_};
 ghost use Prim.Native.Nat.{_+_, _*_};
 ghost use lib.Dec.{ltb};
 ghost use Rattle.tlp.specs.Rows.{first};
-ghost use Rattle.reads_rules.specs.Windows.{windowEnd, placeBad, placeRows, sharesByte, holdsWindow};
+ghost use Rattle.reads_rules.specs.Windows.{placeBad, placeRows, sharesByte, holdsWindow};
+
+// The most bytes that a store may have.
+pub const STORE_LIMIT: u64 = 65536;
 
 // The window's size in bytes.
 fn window_size(q: ReadRequest) -> u64
@@ -26,16 +29,17 @@ fn before_end(place: u64, from: u64, size: u64) -> bool
 }
 
 // Whether 4 x length is over MRRS.
-pub(crate) fn over_request_size(s: Settings, q: ReadRequest) -> bool
-    ensures { λ r. ⌜ r ≡ ltb (s .mrrs) (4 * q .access .length) ⌝ }
+pub(crate) fn over_request_size(settings: Settings, q: ReadRequest) -> bool
+    ensures { λ r. ⌜ r ≡ ltb (settings .mrrs) (4 * q .access .length) ⌝ }
 {
-    (s.mrrs as u64) < window_size(q)
+    (settings.mrrs as u64) < window_size(q)
 }
 
+// What 23 is given for, with a store of room bytes.
 pub(crate) fn place_bad(q: ReadRequest, room: u64) -> bool
     ensures { λ r. ⌜ r ≡ placeBad q room ⌝ }
 {
-    if 65536 < room {
+    if STORE_LIMIT < room {
         return true;
     }
     if q.start % 4 != 0 {
@@ -45,10 +49,10 @@ pub(crate) fn place_bad(q: ReadRequest, room: u64) -> bool
 }
 
 // The first of 22 and 23 that holds, with a store of room bytes; 0 where none does.
-pub fn place_number(s: Settings, q: ReadRequest, room: u64) -> u32
-    ensures { λ n. ⌜ n ≡ first (placeRows s q room) ⌝ }
+pub fn place_number(settings: Settings, q: ReadRequest, room: u64) -> u32
+    ensures { λ n. ⌜ n ≡ first (placeRows settings q room) ⌝ }
 {
-    if over_request_size(s, q) {
+    if over_request_size(settings, q) {
         return 22;
     }
     if place_bad(q, room) {
@@ -71,7 +75,7 @@ pub fn shares_byte(q: ReadRequest, r: ReadRequest) -> bool
 pub fn holds_window(q: ReadRequest, room: u64) -> bool
     ensures { λ b. ⌜ b ≡ holdsWindow q room ⌝ }
 {
-    if 65536 < room {
+    if STORE_LIMIT < room {
         return false;
     }
     !before_end(room, q.start, window_size(q))

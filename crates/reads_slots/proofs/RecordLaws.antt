@@ -16,9 +16,11 @@ use Rattle.reads_words.specs.Capacity.{capacity}
 use Rattle.reads_words.specs.TagSets.{withBit, withoutBit, contains}
 use Rattle.reads_words.proofs.SetLaws.{empty-in, length-changed, in-with, in-without, in-with-other, in-without-other}
 use Rattle.reads_words.proofs.OrderLaws.{with-twice, without-twice, without-after, with-after, with-with-tag, without-without-tag, without-with-tag}
-use Rattle.reads_words.specs.Words.{readAt, putRead, clearRead, Fits}
-use Rattle.reads_words.proofs.WordLaws.{length-put, length-clear, read-put, read-put-other, read-clear-other, at-fits, words-order as either-words, words-last as last-words}
-use Rattle.reads_slots.specs.Records.{recordAt, stateBelow, openedWith, wordsWith, FitsIn}
+use Rattle.reads_words.specs.Words.{readAt, putRead, clearRead}
+use Rattle.reads_words.specs.Inner.Fits.{Fits}
+use Rattle.reads_words.proofs.WordLaws.{length-put, length-clear, read-put, read-put-other, read-clear-other, at-fits, words-order as put-order, words-last as last-words}
+use Rattle.reads_slots.specs.Records.{recordAt, stateBelow, openedWith, wordsWith}
+use Rattle.reads_slots.specs.Inner.Fits.{FitsIn}
 
 pub length-opened : (opened : List ℕ) (tag : ℕ) (x : State) → length (openedWith opened tag x) ≡ length opened
 length-opened opened tag Free = length-changed withoutBit opened tag
@@ -59,10 +61,6 @@ module _ (opened words : List ℕ) (tag : ℕ) where
   record-same Free k l m f = rw (in-without opened tag)
   record-same (Open r) k l m f = rw (in-with opened tag k (omega arith), read-put words tag r k (omega arith) (f r refl))
 
-  pub record-freed : recordAt (openedWith opened tag Free) (wordsWith words tag Free) tag ≡ Free
-  unfolding recordAt
-  record-freed = rw (in-without opened tag)
-
   pub record-other : (x : State) (u : ℕ) → (u ≡ tag → ⊥) → recordAt (openedWith opened tag x) (wordsWith words tag x) u ≡ recordAt opened words u
   unfolding recordAt
   record-other Free u n = rw (in-without-other opened tag u n, read-clear-other words tag u n)
@@ -72,31 +70,31 @@ module _ (opened words : List ℕ) (tag : ℕ) where
 module _ (u v : ℕ) (n : u ≡ v → ⊥) where
   pub opened-order : (opened : List ℕ) (x y : State) → openedWith (openedWith opened u x) v y ≡ openedWith (openedWith opened v y) u x
   opened-order opened Free Free = without-without-tag opened u v n
-  opened-order opened Free (Open s) = sym (without-with-tag opened v u (λ e. n (sym e)))
+  opened-order opened Free (Open r′) = sym (without-with-tag opened v u (λ e. n (sym e)))
   opened-order opened (Open r) Free = without-with-tag opened u v n
-  opened-order opened (Open r) (Open s) = with-with-tag opened u v n
+  opened-order opened (Open r) (Open r′) = with-with-tag opened u v n
 
   pub words-order : (words : List ℕ) (x y : State) → wordsWith (wordsWith words u x) v y ≡ wordsWith (wordsWith words v y) u x
   unfolding putRead clearRead
-  words-order words Free Free = either-words words u v _ _ _ _ _ _ _ _ n
-  words-order words Free (Open s) = either-words words u v _ _ _ _ _ _ _ _ n
-  words-order words (Open r) Free = either-words words u v _ _ _ _ _ _ _ _ n
-  words-order words (Open r) (Open s) = either-words words u v _ _ _ _ _ _ _ _ n
+  words-order words Free Free = put-order words u v _ _ _ _ _ _ _ _ n
+  words-order words Free (Open r′) = put-order words u v _ _ _ _ _ _ _ _ n
+  words-order words (Open r) Free = put-order words u v _ _ _ _ _ _ _ _ n
+  words-order words (Open r) (Open r′) = put-order words u v _ _ _ _ _ _ _ _ n
 
 -- the record of one tag twice: the last counts
 module _ (u : ℕ) where
   pub opened-last : (opened : List ℕ) (x y : State) → openedWith (openedWith opened u x) u y ≡ openedWith opened u y
   opened-last opened Free Free = without-twice opened u
-  opened-last opened Free (Open s) = with-after opened u
+  opened-last opened Free (Open r′) = with-after opened u
   opened-last opened (Open r) Free = without-after opened u
-  opened-last opened (Open r) (Open s) = with-twice opened u
+  opened-last opened (Open r) (Open r′) = with-twice opened u
 
   pub words-last : (words : List ℕ) (x y : State) → wordsWith (wordsWith words u x) u y ≡ wordsWith words u y
   unfolding putRead clearRead
   words-last words Free Free = last-words words u _ _ _ _ _ _ _ _
-  words-last words Free (Open s) = last-words words u _ _ _ _ _ _ _ _
+  words-last words Free (Open r′) = last-words words u _ _ _ _ _ _ _ _
   words-last words (Open r) Free = last-words words u _ _ _ _ _ _ _ _
-  words-last words (Open r) (Open s) = last-words words u _ _ _ _ _ _ _ _
+  words-last words (Open r) (Open r′) = last-words words u _ _ _ _ _ _ _ _
 
 -- ---- below and over a limit
 

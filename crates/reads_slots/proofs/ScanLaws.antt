@@ -28,7 +28,7 @@ use Rattle.reads_slots.specs.declared.State.{State}
 use Rattle.reads_slots.specs.declared.State.the-variants.{Free, Open}
 use Rattle.reads_slots.specs.Slots.{validState, sharesIn, owedIn}
 use Rattle.reads_slots.specs.Records.{recordAt, stateBelow, validAt, sharesAt, owedAt}
-use Rattle.reads_slots.specs.WordScans.{recordIn, validIn, sharesInWord, owedInWord}
+use Rattle.reads_slots.specs.Inner.WordScans.{recordIn, validIn, sharesInWord, owedInWord}
 use Rattle.reads_slots.proofs.RecordLaws.{below-in, below-over}
 
 -- ---- no read owes more than its length, which has 32 bits
@@ -39,20 +39,20 @@ read-small words tag =
     let k = at-fits words tag .length-fits in
     omega arith
 
-either-small : (b : Bool) (words : List ℕ) (tag : ℕ) → owedIn (pick b (Open (readAt words tag)) Free) ≤ 2 ^ 32
-either-small true words tag = read-small words tag
-either-small false words tag = omega arith
+record-small : (b : Bool) (words : List ℕ) (tag : ℕ) → owedIn (pick b (Open (readAt words tag)) Free) ≤ 2 ^ 32
+record-small true words tag = read-small words tag
+record-small false words tag = omega arith
 
 word-most : (w : ℕ) (words : List ℕ) (from : ℕ) → sumBelow 64 (owedInWord w words from) ≤ 2 ^ 32 * 64
 unfolding owedInWord recordIn
-word-most w words from = sum-most (owedInWord w words from) (2 ^ 32) 64 (λ b. either-small (bit w b) words (from + b))
+word-most w words from = sum-most (owedInWord w words from) (2 ^ 32) 64 (λ b. record-small (bit w b) words (from + b))
 
 tags-most : (limit : ℕ) (opened words : List ℕ) (n : ℕ) → sumBelow n (owedAt limit opened words) ≤ 2 ^ 32 * n
 unfolding owedAt stateBelow recordAt
 tags-most limit opened words n = sum-most (owedAt limit opened words) (2 ^ 32) n (λ u. go (ltb u limit) u)
   where
     go : (b : Bool) (u : ℕ) → owedIn (pick b (pick (contains opened u) (Open (readAt words u)) Free) Free) ≤ 2 ^ 32
-    go true u = either-small (contains opened u) words u
+    go true u = record-small (contains opened u) words u
     go false u = omega arith
 
 -- ---- a word that has no tag
@@ -62,9 +62,9 @@ module _ (rest : ℕ) (words : List ℕ) (from : ℕ) (h : rest ≡ 0) where
   unfolding recordIn
   none-in b = rw (h, zero-div (2 ^ b))
 
-  pub valid-end : (s : Settings) (w : ℕ) → allBelow 64 (validIn s rest words from) ≡ allBelow 64 (validIn s w words from) → true ≡ allBelow 64 (validIn s w words from)
+  pub valid-end : (settings : Settings) (w : ℕ) → allBelow 64 (validIn settings rest words from) ≡ allBelow 64 (validIn settings w words from) → true ≡ allBelow 64 (validIn settings w words from)
   unfolding validIn
-  valid-end s w e = sym (all-empty (validIn s rest words from) 64 (λ b k. ap (validState s) (none-in b))) ∙ e
+  valid-end settings w e = sym (all-empty (validIn settings rest words from) 64 (λ b k. ap (validState settings) (none-in b))) ∙ e
 
   pub shares-end : (q : ReadRequest) (w : ℕ) → anyBelow 64 (sharesInWord q rest words from) ≡ anyBelow 64 (sharesInWord q w words from) → false ≡ anyBelow 64 (sharesInWord q w words from)
   unfolding sharesInWord
@@ -114,19 +114,19 @@ module _ (rest : ℕ) (words : List ℕ) (from : ℕ) (h : rest ≡ 0 → ⊥) (
         omega arith
 
     module _ (r : Read) (f : r ≡ readAt words (from + b)) where
-      module _ (s : Settings) (v : Bool) (g : v ≡ validRead s r) (w : ℕ) (i : allBelow 64 (validIn s rest words from) ≡ allBelow 64 (validIn s w words from)) where
-        here-valid : v ≡ validRead s (readAt words (from + clearBelow 64 rest))
-        here-valid = g ∙ ap (validRead s) (f ∙ ap (λ (x : ℕ). readAt words (from + x)) e)
+      module _ (settings : Settings) (v : Bool) (g : v ≡ validRead settings r) (w : ℕ) (i : allBelow 64 (validIn settings rest words from) ≡ allBelow 64 (validIn settings w words from)) where
+        here-valid : v ≡ validRead settings (readAt words (from + clearBelow 64 rest))
+        here-valid = g ∙ ap (validRead settings) (f ∙ ap (λ (x : ℕ). readAt words (from + x)) e)
 
-        pub valid-turn : (rest′ : ℕ) → not v ≡ false → rest′ ≡ withoutLowest rest → allBelow 64 (validIn s rest′ words from) ≡ allBelow 64 (validIn s w words from)
+        pub valid-turn : (rest′ : ℕ) → not v ≡ false → rest′ ≡ withoutLowest rest → allBelow 64 (validIn settings rest′ words from) ≡ allBelow 64 (validIn settings w words from)
         unfolding validIn
         valid-turn rest′ k n =
-            rw n (all-same (validIn s (withoutLowest rest) words from) (validIn s rest words from) 64 (λ c m. agree (validState s) (sym here-valid ∙ not-false v k) c) ∙ i)
+            rw n (all-same (validIn settings (withoutLowest rest) words from) (validIn settings rest words from) 64 (λ c m. agree (validState settings) (sym here-valid ∙ not-false v k) c) ∙ i)
 
-        pub valid-fails : not v ≡ true → false ≡ allBelow 64 (validIn s w words from)
+        pub valid-fails : not v ≡ true → false ≡ allBelow 64 (validIn settings w words from)
         unfolding validIn
         valid-fails k =
-            sym (all-fail (validIn s rest words from) 64 (clearBelow 64 rest) (lowest-below rest h l) (ap (validState s) open-lowest ∙ (sym here-valid ∙ not-true v k))) ∙ i
+            sym (all-fail (validIn settings rest words from) 64 (clearBelow 64 rest) (lowest-below rest h l) (ap (validState settings) open-lowest ∙ (sym here-valid ∙ not-true v k))) ∙ i
 
       module _ (q : ReadRequest) (v : Bool) (g : v ≡ sharesByte q (r .request)) (w : ℕ) (i : anyBelow 64 (sharesInWord q rest words from) ≡ anyBelow 64 (sharesInWord q w words from)) where
         here-shares : v ≡ sharesByte q (readAt words (from + clearBelow 64 rest) .request)
@@ -190,11 +190,11 @@ module _ (limit : ℕ) (opened words : List ℕ) where
           rw (below-over limit opened words (64 * j + b) k) (unfold recordIn in rw (word-over opened j limit b h k))
 
   -- the tags of the words up to j, and those of word j
-  joined : {M : Type 0} (g : State → M) (join : M → M → M) (below : ℕ → (ℕ → M) → M)
+  with-word : {M : Type 0} (g : State → M) (join : M → M → M) (below : ℕ → (ℕ → M) → M)
       → ((f h : ℕ → M) (a n : ℕ) → ((b : ℕ) → b < n → h b ≡ f (a + b)) → below (a + n) f ≡ join (below a f) (below n h))
       → (j : ℕ) → j < capacity / 64 → below (64 * (j + 1)) (λ u. g (stateBelow limit opened words u))
       ≡ join (below (64 * j) (λ u. g (stateBelow limit opened words u))) (below 64 (λ b. g (recordIn (wordBelow (getD opened j 0) (64 * j) limit) words (64 * j) b)))
-  joined g join below parts j r =
+  with-word g join below parts j r =
       let e : 64 * (j + 1) ≡ 64 * j + 64 = omega arith in
       rw e (parts (λ u. g (stateBelow limit opened words u)) (λ b. g (recordIn (wordBelow (getD opened j 0) (64 * j) limit) words (64 * j) b)) (64 * j) 64 (λ b h. ap g (same-record j b r h)))
 
@@ -206,9 +206,9 @@ module _ (limit : ℕ) (opened words : List ℕ) where
       go false e = below-over limit opened words u (ltb-false u limit e)
 
   -- all words are all tags below the limit
-  whole : {M : Type 0} (g : State → M) (below : ℕ → (ℕ → M) → M) → ((f : ℕ → M) (a n : ℕ) → ((u : ℕ) → a ≤ u → f u ≡ g Free) → below (a + n) f ≡ below a f)
+  all-words : {M : Type 0} (g : State → M) (below : ℕ → (ℕ → M) → M) → ((f : ℕ → M) (a n : ℕ) → ((u : ℕ) → a ≤ u → f u ≡ g Free) → below (a + n) f ≡ below a f)
       → below (64 * (capacity / 64)) (λ u. g (stateBelow limit opened words u)) ≡ below limit (λ u. g (stateBelow limit opened words u))
-  whole {M} g below ends = go (ltb limit capacity) refl
+  all-words {M} g below ends = go (ltb limit capacity) refl
     where
       here : ℕ → M
       here u = g (stateBelow limit opened words u)
@@ -216,18 +216,18 @@ module _ (limit : ℕ) (opened words : List ℕ) where
       go : (c : Bool) → ltb limit capacity ≡ c → below capacity here ≡ below limit here
       go true e =
           let k = ltb-true limit capacity e in
-          let s : limit + (capacity - limit) ≡ capacity = omega arith in
-          ap (λ (n : ℕ). below n here) (sym s) ∙ ends here limit (capacity - limit) (λ u h. ap g (below-over limit opened words u h))
+          let room : limit + (capacity - limit) ≡ capacity = omega arith in
+          ap (λ (n : ℕ). below n here) (sym room) ∙ ends here limit (capacity - limit) (λ u h. ap g (below-over limit opened words u h))
       go false e =
           let k = ltb-false limit capacity e in
-          let s : capacity + (limit - capacity) ≡ limit = omega arith in
-          sym (ap (λ (n : ℕ). below n here) (sym s) ∙ ends here capacity (limit - capacity) (λ u h. ap g (none-over u h)))
+          let room : capacity + (limit - capacity) ≡ limit = omega arith in
+          sym (ap (λ (n : ℕ). below n here) (sym room) ∙ ends here capacity (limit - capacity) (λ u h. ap g (none-over u h)))
 
   -- ---- the turns
 
-  pub valid-start : (s : Settings) → allBelow (64 * 0) (validAt s limit opened words) ≡ true
+  pub valid-start : (settings : Settings) → allBelow (64 * 0) (validAt settings limit opened words) ≡ true
   unfolding allBelow
-  valid-start s = refl
+  valid-start settings = refl
 
   pub shares-start : (q : ReadRequest) → anyBelow (64 * 0) (sharesAt q limit opened words) ≡ false
   unfolding anyBelow
@@ -238,42 +238,42 @@ module _ (limit : ℕ) (opened words : List ℕ) where
   owed-start = refl
 
   module _ (j w : ℕ) (h : j < capacity / 64) (e : w ≡ wordBelow (getD opened j 0) (64 * j) limit) where
-    module _ (s : Settings) (r : Bool) (f : r ≡ allBelow 64 (validIn s w words (64 * j))) where
-      valid-joined : allBelow (64 * (j + 1)) (validAt s limit opened words) ≡ (allBelow (64 * j) (validAt s limit opened words) && r)
+    module _ (settings : Settings) (r : Bool) (f : r ≡ allBelow 64 (validIn settings w words (64 * j))) where
+      valid-with-word : allBelow (64 * (j + 1)) (validAt settings limit opened words) ≡ (allBelow (64 * j) (validAt settings limit opened words) && r)
       unfolding validAt validIn
-      valid-joined = rw (f, e) (joined (validState s) _&&_ allBelow all-parts j h)
+      valid-with-word = rw (f, e) (with-word (validState settings) _&&_ allBelow all-parts j h)
 
-      pub valid-next : allBelow (64 * j) (validAt s limit opened words) ≡ true → not r ≡ false → allBelow (64 * (j + 1)) (validAt s limit opened words) ≡ true
-      valid-next i k = valid-joined ∙ rw (i, not-false r k)
+      pub valid-next : allBelow (64 * j) (validAt settings limit opened words) ≡ true → not r ≡ false → allBelow (64 * (j + 1)) (validAt settings limit opened words) ≡ true
+      valid-next i k = valid-with-word ∙ rw (i, not-false r k)
 
-      pub valid-stop : not r ≡ true → false ≡ allBelow limit (validAt s limit opened words)
-      valid-stop k = sym (unfold validAt in sym (whole (validState s) allBelow all-ends) ∙ ends-there)
+      pub valid-stop : not r ≡ true → false ≡ allBelow limit (validAt settings limit opened words)
+      valid-stop k = sym (unfold validAt in sym (all-words (validState settings) allBelow all-ends) ∙ ends-there)
         where
-          ends-there : allBelow (64 * (capacity / 64)) (validAt s limit opened words) ≡ false
+          ends-there : allBelow (64 * (capacity / 64)) (validAt settings limit opened words) ≡ false
           ends-there =
-              stopped (validAt s limit opened words) _&&_ allBelow all-parts false (λ m. refl) j h
-              (valid-joined ∙ rw (not-true r k) (and-false (allBelow (64 * j) (validAt s limit opened words))))
+              stopped (validAt settings limit opened words) _&&_ allBelow all-parts false (λ m. refl) j h
+              (valid-with-word ∙ rw (not-true r k) (and-false (allBelow (64 * j) (validAt settings limit opened words))))
 
     module _ (q : ReadRequest) (r : Bool) (f : r ≡ anyBelow 64 (sharesInWord q w words (64 * j))) where
-      shares-joined : anyBelow (64 * (j + 1)) (sharesAt q limit opened words) ≡ (anyBelow (64 * j) (sharesAt q limit opened words) || r)
+      shares-with-word : anyBelow (64 * (j + 1)) (sharesAt q limit opened words) ≡ (anyBelow (64 * j) (sharesAt q limit opened words) || r)
       unfolding sharesAt sharesInWord
-      shares-joined = rw (f, e) (joined (sharesIn q) _||_ anyBelow any-parts j h)
+      shares-with-word = rw (f, e) (with-word (sharesIn q) _||_ anyBelow any-parts j h)
 
       pub shares-next : anyBelow (64 * j) (sharesAt q limit opened words) ≡ false → r ≡ false → anyBelow (64 * (j + 1)) (sharesAt q limit opened words) ≡ false
-      shares-next i k = shares-joined ∙ rw (i, k)
+      shares-next i k = shares-with-word ∙ rw (i, k)
 
       pub shares-stop : r ≡ true → true ≡ anyBelow limit (sharesAt q limit opened words)
-      shares-stop k = sym (unfold sharesAt in sym (whole (sharesIn q) anyBelow any-ends) ∙ ends-there)
+      shares-stop k = sym (unfold sharesAt in sym (all-words (sharesIn q) anyBelow any-ends) ∙ ends-there)
         where
           ends-there : anyBelow (64 * (capacity / 64)) (sharesAt q limit opened words) ≡ true
           ends-there =
               stopped (sharesAt q limit opened words) _||_ anyBelow any-parts true (λ m. refl) j h
-              (shares-joined ∙ rw k (or-true (anyBelow (64 * j) (sharesAt q limit opened words))))
+              (shares-with-word ∙ rw k (or-true (anyBelow (64 * j) (sharesAt q limit opened words))))
 
     module _ (sum m : ℕ) (f : m ≡ sumBelow 64 (owedInWord w words (64 * j))) (i : sum ≡ sumBelow (64 * j) (owedAt limit opened words)) where
       pub owed-next : sum + m ≡ sumBelow (64 * (j + 1)) (owedAt limit opened words)
       unfolding owedAt owedInWord
-      owed-next = rw (i, f, e) (sym (joined owedIn _+_ sumBelow sum-parts j h))
+      owed-next = rw (i, f, e) (sym (with-word owedIn _+_ sumBelow sum-parts j h))
 
       pub sum-fits : sum + m < 18446744073709551616
       sum-fits =
@@ -287,16 +287,16 @@ module _ (limit : ℕ) (opened words : List ℕ) where
     at-end : j ≡ capacity / 64
     at-end = omega arith
 
-    pub valid-whole : (s : Settings) → allBelow (64 * j) (validAt s limit opened words) ≡ true → true ≡ allBelow limit (validAt s limit opened words)
+    pub valid-all-words : (settings : Settings) → allBelow (64 * j) (validAt settings limit opened words) ≡ true → true ≡ allBelow limit (validAt settings limit opened words)
     unfolding validAt
-    valid-whole s i = sym (sym (whole (validState s) allBelow all-ends) ∙ rw at-end at i)
+    valid-all-words settings i = sym (sym (all-words (validState settings) allBelow all-ends) ∙ rw at-end at i)
 
-    pub shares-whole : (q : ReadRequest) → anyBelow (64 * j) (sharesAt q limit opened words) ≡ false → false ≡ anyBelow limit (sharesAt q limit opened words)
+    pub shares-all-words : (q : ReadRequest) → anyBelow (64 * j) (sharesAt q limit opened words) ≡ false → false ≡ anyBelow limit (sharesAt q limit opened words)
     unfolding sharesAt
-    shares-whole q i = sym (sym (whole (sharesIn q) anyBelow any-ends) ∙ rw at-end at i)
+    shares-all-words q i = sym (sym (all-words (sharesIn q) anyBelow any-ends) ∙ rw at-end at i)
 
-    pub owed-whole : (sum : ℕ) → sum ≡ sumBelow (64 * j) (owedAt limit opened words) → sum ≡ sumBelow limit (owedAt limit opened words)
+    pub owed-all-words : (sum : ℕ) → sum ≡ sumBelow (64 * j) (owedAt limit opened words) → sum ≡ sumBelow limit (owedAt limit opened words)
     unfolding owedAt
-    owed-whole sum i = rw at-end at i ∙ whole owedIn sumBelow sum-ends
+    owed-all-words sum i = rw at-end at i ∙ all-words owedIn sumBelow sum-ends
 
-pub ruleset scan-laws = (valid-start, shares-start, owed-start, valid-next, valid-stop, shares-next, shares-stop, owed-next, sum-fits, valid-whole, shares-whole, owed-whole)
+pub ruleset scan-laws = (valid-start, shares-start, owed-start, valid-next, valid-stop, shares-next, shares-stop, owed-next, sum-fits, valid-all-words, shares-all-words, owed-all-words)

@@ -1,15 +1,15 @@
--- Document 01: "A tag's record is whether it is open and, if so, p and what open got", from the set of open tags and the words of their reads.
+-- Document 01: "A tag's record is whether it is open and, if so, p and what open got", from the set of open tags and
+-- the words of their reads. A reader must believe `recordAt`, `stateBelow`, `openedWith` and `wordsWith`; the last
+-- three say the same as the table's own sums and tests over `stateBelow`, and serve the scans.
 use Prim.Native.Nat.{ℕ}
-use mathlib.Core.Path.{_≡_}
 use mathlib.Core.Bool.{Bool}
 use mathlib.Core.List.{List}
 use lib.Dec.{ltb}
 use Rattle.bits.specs.Choice.{pick}
 use Rattle.tlp.specs.declared.settings.Settings.{Settings}
 use Rattle.reads_rules.specs.declared.request.ReadRequest.{ReadRequest}
-use Rattle.reads_rules.specs.declared.read.Read.{Read}
 use Rattle.reads_words.specs.TagSets.{contains, withTag, withoutTag}
-use Rattle.reads_words.specs.Words.{readAt, putRead, clearRead, Fits}
+use Rattle.reads_words.specs.Words.{readAt, putRead, clearRead}
 use Rattle.reads_slots.specs.declared.State.{State}
 use Rattle.reads_slots.specs.declared.State.the-variants.{Free, Open}
 use Rattle.reads_slots.specs.Slots.{validState, sharesIn, owedIn}
@@ -31,15 +31,11 @@ abbrev pub wordsWith : List ℕ → ℕ → State → List ℕ
 wordsWith words tag Free = clearRead words tag
 wordsWith words tag (Open r) = putRead words tag r
 
--- the read of an open record has fields that fit their types; a free one has none
-abbrev pub FitsIn : State → Type 0
-FitsIn x = (r : Read) → x ≡ Open r → Fits (r .request)
-
 -- ---- what the scans look at
 
 -- closed records are not looked at
 unfoldable pub validAt : Settings → ℕ → List ℕ → List ℕ → ℕ → Bool
-validAt s limit opened words tag = validState s (stateBelow limit opened words tag)
+validAt settings limit opened words tag = validState settings (stateBelow limit opened words tag)
 
 -- 24 of one tag: "window shares a byte with an open read's window"
 unfoldable pub sharesAt : ReadRequest → ℕ → List ℕ → List ℕ → ℕ → Bool

@@ -1,4 +1,5 @@
--- Document 01: "A tag's record is whether it is open and, if so, p and what open got".
+-- Document 01: "A tag's record is whether it is open and, if so, p and what open got", and what 11, 24 and owed ask
+-- of one. A reader must believe all of it.
 use Prim.Native.Nat.{ℕ}
 use mathlib.Core.Bool.{Bool, true, false}
 use Rattle.tlp.specs.declared.settings.Settings.{Settings}
@@ -8,14 +9,15 @@ use Rattle.reads_rules.specs.Validity.{validRead, owedOf}
 use Rattle.reads_slots.specs.declared.State.{State}
 use Rattle.reads_slots.specs.declared.State.the-variants.{Free, Open}
 
+-- whether a record holds a read
 abbrev pub isOpen : State → Bool
 isOpen Free = false
 isOpen (Open r) = true
 
 -- closed records are not looked at
 abbrev pub validState : Settings → State → Bool
-validState s Free = true
-validState s (Open r) = validRead s r
+validState settings Free = true
+validState settings (Open r) = validRead settings r
 
 -- 24 of one record: "window shares a byte with an open read's window"
 abbrev pub sharesIn : ReadRequest → State → Bool

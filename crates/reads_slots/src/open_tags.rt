@@ -2,7 +2,7 @@
 use bits::count::lowest_bit;
 use reads_rules::request::ReadRequest;
 use reads_rules::validity::owed_of;
-use reads_rules::validity::read_valid;
+use reads_rules::validity::valid_read;
 use reads_rules::window::shares_byte;
 use reads_words::CAPACITY;
 use reads_words::tag_set::TagSet;
@@ -16,17 +16,18 @@ ghost use Prim.Native.Nat.{_≤_};
 ghost use Rattle.scans.specs.Belows.{allBelow, anyBelow, sumBelow};
 ghost use Rattle.reads_words.specs.Capacity.{capacity};
 ghost use Rattle.reads_slots.specs.Records.{validAt, sharesAt, owedAt};
-ghost use Rattle.reads_slots.specs.WordScans.{validIn, sharesInWord, owedInWord};
+ghost use Rattle.reads_slots.specs.Inner.WordScans.{validIn, sharesInWord, owedInWord};
 
-// ---- the tags of a word w of the set, from its first one on
+// ---- the tags of a word w of the set, of which from is the first; rest holds those that are still to be looked at
 
-fn word_valid(s: Settings, w: u64, words: &Words, from: usize) -> bool
+// Whether open would accept every read of the word.
+fn word_valid(settings: Settings, w: u64, words: &Words, from: usize) -> bool
     requires { ⌜ from ≤ capacity ⌝ }
-    ensures { λ r. ⌜ r ≡ allBelow 64 (validIn s w (now (words .entry)) from) ⌝ }
+    ensures { λ r. ⌜ r ≡ allBelow 64 (validIn settings w (now (words .entry)) from) ⌝ }
 {
     let mut rest = w;
     while rest != 0 {
-        if !read_valid(s, read_at(words, from + lowest_bit(rest))) {
+        if !valid_read(settings, read_at(words, from + lowest_bit(rest))) {
             return false;
         }
         rest = without_lowest(rest);
@@ -34,6 +35,7 @@ fn word_valid(s: Settings, w: u64, words: &Words, from: usize) -> bool
     true
 }
 
+// Whether the window shares a byte with that of a read of the word.
 fn word_shares(q: ReadRequest, w: u64, words: &Words, from: usize) -> bool
     requires { ⌜ from ≤ capacity ⌝ }
     ensures { λ r. ⌜ r ≡ anyBelow 64 (sharesInWord q w (now (words .entry)) from) ⌝ }
@@ -49,6 +51,7 @@ fn word_shares(q: ReadRequest, w: u64, words: &Words, from: usize) -> bool
     false
 }
 
+// The doublewords owed to the reads of the word.
 fn word_owed(w: u64, words: &Words, from: usize) -> u64
     requires { ⌜ from ≤ capacity ⌝ }
     ensures { λ m. ⌜ m ≡ sumBelow 64 (owedInWord w (now (words .entry)) from) ⌝ }
@@ -62,15 +65,20 @@ fn word_owed(w: u64, words: &Words, from: usize) -> u64
     sum
 }
 
-// ---- all tags below a limit
+// ---- all tags below a limit; word j has those from 64 * j on
 
 // Whether open would accept every read that is open.
-pub fn all_valid(s: Settings, limit: usize, opened: &TagSet, words: &Words) -> bool
-    ensures { λ r. ⌜ r ≡ allBelow limit (validAt s limit (now (opened .entry)) (now (words .entry))) ⌝ }
+pub fn all_valid(settings: Settings, limit: usize, opened: &TagSet, words: &Words) -> bool
+    ensures { λ r. ⌜ r ≡ allBelow limit (validAt settings limit (now (opened .entry)) (now (words .entry))) ⌝ }
 {
     let mut j: usize = 0;
     while j < CAPACITY / 64 {
-        if !word_valid(s, word_below(opened[j], 64 * j, limit), words, 64 * j) {
+        if !word_valid(
+            settings,
+            word_below(opened[j], 64 * j, limit),
+            words,
+            64 * j,
+        ) {
             return false;
         }
         j += 1;
@@ -92,7 +100,7 @@ pub fn window_taken(q: ReadRequest, limit: usize, opened: &TagSet, words: &Words
     false
 }
 
-// The doublewords owed.
+// The doublewords still owed to all open reads.
 pub fn tags_owed(limit: usize, opened: &TagSet, words: &Words) -> u64
     ensures { λ m. ⌜ m ≡ sumBelow limit (owedAt limit (now (opened .entry)) (now (words .entry))) ⌝ }
 {

@@ -11,7 +11,7 @@ use reads_words::words::read_at;
 ghost use mathlib.Core.Path.{_≡_};
 ghost use Rattle.reads_slots.specs.Records.{recordAt, stateBelow, openedWith, wordsWith};
 
-// What is kept of a tag, over the limit too.
+// What is kept of a tag, whether it is below the limit or not.
 pub fn record_at(opened: &TagSet, words: &Words, tag: usize) -> State
     ensures { λ x. ⌜ x ≡ recordAt (now (opened .entry)) (now (words .entry)) tag ⌝ }
 {
@@ -31,7 +31,7 @@ pub fn state_below(limit: usize, opened: &TagSet, words: &Words, tag: usize) -> 
     record_at(opened, words, tag)
 }
 
-// Every change of a record.
+// Puts a tag's record: every change of one is this.
 pub fn put_state(opened: &mut TagSet, words: &mut Words, tag: usize, x: State)
     ensures { λ _. ⌜ now (opened .exit) ≡ openedWith (now (opened .entry)) tag x ⌝ }
     ensures { λ _. ⌜ now (words .exit) ≡ wordsWith (now (words .entry)) tag x ⌝ }

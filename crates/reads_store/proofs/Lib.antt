@@ -1,3 +1,3 @@
-mod Wholes
+mod EnabledRuns
 mod Returns
 pub mod StoreLaws

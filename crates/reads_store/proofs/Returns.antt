@@ -11,7 +11,7 @@ use lib.Seq.{take-all, take-at, drop-at, take-length, drop-length, length-take-l
 use borrow.Author.Tests.{leb-true, leb-false}
 use Rattle.byte_enables.specs.Enables.{enabled}
 use Rattle.scans.specs.Merges.{merged}
-use Rattle.scans.proofs.MergeLaws.{length-merged, merged-nil, merged-split, merged-whole}
+use Rattle.scans.proofs.MergeLaws.{length-merged, merged-nil, merged-split, merged-all}
 use Rattle.scans.proofs.MergeSteps.{merge-full, merged-part}
 use Rattle.reads_rules.specs.declared.request.ReadRequest.{ReadRequest}
 use Rattle.reads_store.specs.Stores.{stored}
@@ -55,22 +55,22 @@ fits m l n e = go (leb m l) refl
 
 module _ (f : ℕ → Bool) (k i : ℕ) (ds xs ys : List ℕ) where
   -- the first i bytes, all of them enabled
-  whole : i ≤ length ds → i ≤ length xs → ((j : ℕ) → j < i → f (k + j) ≡ true) → merged f k (take i ds) (take i xs) ≡ take i ds
-  whole h l t =
+  front-enabled : i ≤ length ds → i ≤ length xs → ((j : ℕ) → j < i → f (k + j) ≡ true) → merged f k (take i ds) (take i xs) ≡ take i ds
+  front-enabled h l t =
       let m : length (take i ds) ≡ i = length-take-le i ds h in
       let n : length (take i xs) ≡ i = length-take-le i xs l in
-      merged-whole f k (take i ds) (take i xs) (omega arith) (λ j b. t j (omega arith))
+      merged-all f k (take i ds) (take i xs) (omega arith) (λ j b. t j (omega arith))
 
   -- these copied
   pub laid-copy : i ≤ length ds → i ≤ length xs → ((j : ℕ) → j < i → f (k + j) ≡ true)
       → ys ≡ take (length (take i ds)) (take i ds) ++ drop (length (take i ds)) (take i xs) → ys ≡ merged f k (take i ds) (take i xs)
-  laid-copy h l t e = copied i ds xs ys h l e ∙ sym (whole h l t)
+  laid-copy h l t e = copied i ds xs ys h l e ∙ sym (front-enabled h l t)
 
   -- these copied, and no others are left
   pub laid-front : (r : Bool) → i ≡ min (length ds) (length xs) → r ≡ true → (r ≡ true → (j : ℕ) → j < i → f (k + j) ≡ true)
       → ys ≡ take i ds ++ drop i xs → ys ≡ merged f k ds xs
   laid-front r e h t g =
-      let c : merged f k (take i ds) (take i xs) ≡ take i ds = whole (omega arith) (omega arith) (t h) in
+      let c : merged f k (take i ds) (take i xs) ≡ take i ds = front-enabled (omega arith) (omega arith) (t h) in
       let m : length (take i xs) ≤ i = simp length-take (omega arith) in
       let z : length (take i ds) ≡ length (take i xs) = rw (← c) (length-merged f k (take i ds) (take i xs)) in
       let a : take i ds ≡ merged f k ds (take i xs) = merge-full f k ds (take i xs) (take i ds) i (sym c) z (omega arith) in
@@ -89,15 +89,15 @@ module _ (f : ℕ → Bool) (k i : ℕ) (ds xs ys : List ℕ) where
       rw (s, r, take-at ys (drop i xs) i m, drop-length, append-nil, z, e) (merged-split f k i ds xs)
 
 module _ (q : ReadRequest) (p : ℕ) (ds st : List ℕ) where
-  past : length st ≤ q .start + 4 * p → st ≡ stored q p ds st
+  nothing-fits : length st ≤ q .start + 4 * p → st ≡ stored q p ds st
   unfolding stored
-  past h = sym (rw (take-all (q .start + 4 * p) st h, drop-of-length-le st {i = q .start + 4 * p} h, merged-nil) (append-nil st))
+  nothing-fits h = sym (rw (take-all (q .start + 4 * p) st h, drop-of-length-le st {i = q .start + 4 * p} h, merged-nil) (append-nil st))
 
-  pub stored-past : length st < q .start → st ≡ stored q p ds st
-  stored-past h = past (omega arith)
+  pub stored-beyond : length st < q .start → st ≡ stored q p ds st
+  stored-beyond h = nothing-fits (omega arith)
 
   pub stored-short : length st - q .start < 4 * p → st ≡ stored q p ds st
-  stored-short h = past (omega arith)
+  stored-short h = nothing-fits (omega arith)
 
   -- a lent part that is as long as the payload, or reaches to the store's end
   pub stored-part : (n : ℕ) (ys : List ℕ) → q .start ≤ length st → 4 * p ≤ length st - q .start → n ≡ min (length ds) (length st - (q .start + 4 * p))
@@ -108,4 +108,4 @@ module _ (q : ReadRequest) (p : ℕ) (ds st : List ℕ) where
       let k : q .start + 4 * p + n - (q .start + 4 * p) ≡ n = omega arith in
       rw (e, k, merged-part (enabled (q .access)) (4 * p) n ds (drop (q .start + 4 * p) st) (fits (length ds) (length (drop (q .start + 4 * p) st)) n (rw length-drop z)))
 
-pub ruleset stored-laws = (laid-copy, laid-front, laid-two, stored-past, stored-short, stored-part)
+pub ruleset stored-laws = (laid-copy, laid-front, laid-two, stored-beyond, stored-short, stored-part)

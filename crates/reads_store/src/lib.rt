@@ -13,16 +13,18 @@ ghost use Rattle.byte_enables.specs.Enables.{enabled};
 ghost use Rattle.scans.specs.Merges.{merged};
 ghost use Rattle.reads_store.specs.Stores.{stored};
 
-fn chosen(first: bool, a: u8, b: u8) -> u8
-    ensures { λ r. ⌜ r ≡ pick first a b ⌝ }
+// The payload's byte where it is enabled, else the one that stands there.
+fn laid_byte(is_enabled: bool, sent: u8, kept: u8) -> u8
+    ensures { λ r. ⌜ r ≡ pick «is_enabled» sent kept ⌝ }
 {
-    if first {
-        return a;
+    if is_enabled {
+        return sent;
     }
-    b
+    kept
 }
 
-// Lays the enabled bytes of a payload, whose first byte is the read's byte k, over the part that is lent, with a test for each byte.
+// Lays the enabled bytes of a payload, whose first byte is the read's byte k, over the part that is lent, with a test
+// for each byte; i counts them.
 fn store_tested(a: Access, k: u64, payload: &[u8], part: &mut [u8])
     requires { do ⌜ k + (← ⟦payload.len()⟧) < 2 ^ 64 ⌝ }
     ensures { λ _. ⌜ now (part .exit) ≡ merged (enabled a) k (now (payload .entry)) (now (part .entry)) ⌝ }
@@ -32,13 +34,14 @@ fn store_tested(a: Access, k: u64, payload: &[u8], part: &mut [u8])
         if part.len() <= i {
             return;
         }
-        part[i] = chosen(enabled_at(a, k + i as u64), payload[i], part[i]);
+        part[i] = laid_byte(enabled_at(a, k + i as u64), payload[i], part[i]);
         i += 1;
     }
 }
 
-// The bytes of a read from whole_from up to whole_to are all enabled: left out is a first or a last doubleword whose enables are not 1111.
-fn whole_from(a: Access) -> u64
+// The bytes of a read from enabled_from up to enabled_to are all enabled: left out is a first or a last doubleword
+// whose enables are not 1111.
+fn enabled_from(a: Access) -> u64
     ensures { λ r. ⌜ (r < 4 → a .first % 16 ≡ 15) ⌝ }
 {
     if a.first % 16 == 0b1111 {
@@ -47,7 +50,7 @@ fn whole_from(a: Access) -> u64
     4
 }
 
-fn whole_to(a: Access) -> u64
+fn enabled_to(a: Access) -> u64
     ensures { λ r. ⌜ (r ≤ 4 * a .length) × (4 * a .length - 4 < r → a .last % 16 ≡ 15) ⌝ }
 {
     let all = 4 * a.length as u64;
@@ -60,8 +63,8 @@ fn whole_to(a: Access) -> u64
     all - 4
 }
 
-// How far byte end lies past byte k: 0 where it does not.
-fn past(end: u64, k: u64) -> usize
+// How many bytes there are from byte k up to byte end; 0 where end is not beyond k.
+fn bytes_up_to(end: u64, k: u64) -> usize
     ensures { λ r. ⌜ r ≡ end - k ⌝ }
 {
     if end <= k {
@@ -71,42 +74,47 @@ fn past(end: u64, k: u64) -> usize
 }
 
 // How many of the n bytes from byte k on are known to be enabled, without a test of each.
-fn whole_run(a: Access, k: u64, n: usize) -> usize
+fn enabled_run(a: Access, k: u64, n: usize) -> usize
     ensures { λ r. ⌜ (r ≤ n) × ((i : ℕ) → i < r → enabled a (k + i) ≡ true) ⌝ }
 {
-    if k < whole_from(a) {
+    if k < enabled_from(a) {
         return 0;
     }
-    lesser(past(whole_to(a), k), n)
+    lesser(bytes_up_to(enabled_to(a), k), n)
 }
 
-// What store_tested does, where the first w bytes are all enabled: one copy of these is many times faster than a test of each.
-fn store_whole(a: Access, k: u64, w: usize, payload: &[u8], part: &mut [u8])
-    requires { do ⌜ (w ≤ (← ⟦payload.len()⟧)) × (w ≤ (← ⟦part.len()⟧)) × (k + (← ⟦payload.len()⟧) < 2 ^ 64) ⌝ }
-    requires { ⌜ ((i : ℕ) → i < w → enabled a (k + i) ≡ true) ⌝ }
+// What store_tested does, where the first run bytes are all enabled: one copy of these is many times faster than a
+// test of each.
+fn store_run_and_rest(a: Access, k: u64, run: usize, payload: &[u8], part: &mut [u8])
+    requires { do ⌜ (run ≤ (← ⟦payload.len()⟧)) × (run ≤ (← ⟦part.len()⟧)) × (k + (← ⟦payload.len()⟧) < 2 ^ 64) ⌝ }
+    requires { ⌜ ((i : ℕ) → i < run → enabled a (k + i) ≡ true) ⌝ }
     ensures { λ _. ⌜ now (part .exit) ≡ merged (enabled a) k (now (payload .entry)) (now (part .entry)) ⌝ }
 {
-    bytes::copy(&payload[..w], &mut part[..w]);
-    store_tested(a, k + w as u64, &payload[w..], &mut part[w..]);
+    bytes::copy(&payload[..run], &mut part[..run]);
+    store_tested(a, k + run as u64, &payload[run..], &mut part[run..]);
 }
 
-// Copies the first n bytes. They go by way of a block of their own where it holds them: the compiler then knows that nothing overlaps, and makes one
-// block copy of the two loops.
+// A block that holds the largest payload: MPS is at most 4,096.
+const BLOCK: usize = 4096;
+
+// Copies the first n bytes. They go by way of a block of their own where it holds them: the compiler then knows that
+// nothing overlaps, and makes one block copy of the two loops.
 fn copy_front(n: usize, src: &[u8], dst: &mut [u8])
     requires { do ⌜ (n ≤ (← ⟦src.len()⟧)) × (n ≤ (← ⟦dst.len()⟧)) ⌝ }
     ensures { λ _. ⌜ now (dst .exit) ≡ take n (now (src .entry)) ++ drop n (now (dst .entry)) ⌝ }
 {
-    if 4096 < n {
+    if BLOCK < n {
         bytes::copy(&src[..n], &mut dst[..n]);
         return;
     }
-    let mut block = [0u8; 4096];
+    let mut block = [0u8; BLOCK];
     bytes::copy(&src[..n], &mut block[..n]);
     bytes::copy(&block[..n], &mut dst[..n]);
 }
 
-// Whether the n bytes from byte k on are all enabled, as the enables of the first and the last doubleword alone show it.
-fn all_whole(a: Access, k: u64, n: usize) -> bool
+// Whether the n bytes from byte k on are all enabled, as the enables of the first and the last doubleword alone show
+// it.
+fn all_enabled(a: Access, k: u64, n: usize) -> bool
     ensures { λ r. ⌜ (r ≡ true → (i : ℕ) → i < n → enabled a (k + i) ≡ true) ⌝ }
 {
     if a.first % 16 != 0b1111 {
@@ -115,37 +123,37 @@ fn all_whole(a: Access, k: u64, n: usize) -> bool
     if a.last % 16 != 0b1111 {
         return false;
     }
-    n <= past(4 * a.length as u64, k)
+    n <= bytes_up_to(4 * a.length as u64, k)
 }
 
-// What store_tested does, by runs: first the bytes before the run that is enabled whole, then that run and what follows it. Neither slice is
-// shorter than n.
+// What store_tested does, by runs: first the h bytes before the run that is all enabled, then that run and what
+// follows it. Neither slice is shorter than n.
 fn store_runs(a: Access, k: u64, n: usize, payload: &[u8], part: &mut [u8])
     requires { do ⌜ (n ≤ (← ⟦payload.len()⟧)) × (n ≤ (← ⟦part.len()⟧)) × (k + (← ⟦payload.len()⟧) < 2 ^ 64) ⌝ }
     ensures { λ _. ⌜ now (part .exit) ≡ merged (enabled a) k (now (payload .entry)) (now (part .entry)) ⌝ }
 {
-    let h = lesser(past(whole_from(a), k), n);
-    let w = whole_run(a, k + h as u64, n - h);
+    let h = lesser(bytes_up_to(enabled_from(a), k), n);
+    let run = enabled_run(a, k + h as u64, n - h);
     store_tested(a, k, &payload[..h], &mut part[..h]);
-    store_whole(a, k + h as u64, w, &payload[h..], &mut part[h..]);
+    store_run_and_rest(a, k + h as u64, run, &payload[h..], &mut part[h..]);
 }
 
-// Lays the enabled bytes of a payload, whose first doubleword is the read's doubleword p, over the part of the store that is lent. Where all of
-// them are enabled they are copied at once.
+// Lays the enabled bytes of a payload, whose first doubleword is the read's doubleword p, over the part of the store
+// that is lent. Where all of them are enabled they are copied at once.
 pub fn store_enabled(a: Access, p: u32, payload: &[u8], part: &mut [u8])
     ensures { λ _. ⌜ now (part .exit) ≡ merged (enabled a) (4 * p) (now (payload .entry)) (now (part .entry)) ⌝ }
 {
     let k = 4 * p as u64;
     let n = lesser(payload.len(), part.len());
-    if all_whole(a, k, n) {
+    if all_enabled(a, k, n) {
         copy_front(n, payload, part);
         return;
     }
     store_runs(a, k, n, payload, part);
 }
 
-// Writes the enabled bytes of a payload into the store: the part that starts at window start plus 4p is lent. A start is any number; past the store
-// there is nothing to write.
+// Writes the enabled bytes of a payload into the store: the part that starts at window start plus 4p is lent. A start
+// is any number; beyond the store there is nothing to write.
 pub fn store_piece(q: ReadRequest, p: u32, payload: &[u8], store: &mut [u8])
     ensures { λ _. ⌜ now (store .exit) ≡ stored q p (now (payload .entry)) (now (store .entry)) ⌝ }
 {

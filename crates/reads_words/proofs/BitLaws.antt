@@ -36,13 +36,13 @@ bit-le w b h = go (w / 2 ^ b) (eqb-true (w / 2 ^ b % 2) 1 h) (split w b)
 
 -- a clear bit has room
 pub bit-room : (w b : ℕ) → bit w b ≡ false → w < 2 ^ 64 → b < 64 → w + 2 ^ b < 2 ^ 64
-bit-room w b h k l = rw (whole) at (div-lt-iff-lt-mul {k = 2 ^ b} {x = w + 2 ^ b} {y = 2 ^ suc (63 - b)} (pow-pos b) .0 below)
+bit-room w b h k l = rw (product) at (div-lt-iff-lt-mul {k = 2 ^ b} {x = w + 2 ^ b} {y = 2 ^ suc (63 - b)} (pow-pos b) .0 below)
   where
     sum : suc (63 - b) + b ≡ 64
     sum = omega arith
 
-    whole : 2 ^ suc (63 - b) * 2 ^ b ≡ 2 ^ 64
-    whole = sym (pow-add 2 (suc (63 - b)) b) ∙ ap (λ (x : ℕ). 2 ^ x) sum
+    product : 2 ^ suc (63 - b) * 2 ^ b ≡ 2 ^ 64
+    product = sym (pow-add 2 (suc (63 - b)) b) ∙ ap (λ (x : ℕ). 2 ^ x) sum
 
     under : w / 2 ^ b < 2 ^ suc (63 - b)
     under = shr-lt (suc (63 - b)) b (rw sum k)
@@ -63,10 +63,10 @@ module _ (w b : ℕ) (h : bit w b ≡ false) where
 
   -- a lower bit
   add-below : (c k : ℕ) → c + suc k ≡ b → (w + 2 ^ b) / 2 ^ c % 2 ≡ w / 2 ^ c % 2
-  add-below c k e = rw (whole, up-by w (2 ^ suc k) c, pow-suc 2 k) (omega arith)
+  add-below c k e = rw (sum-is, up-by w (2 ^ suc k) c, pow-suc 2 k) (omega arith)
     where
-      whole : w + 2 ^ b ≡ w + 2 ^ suc k * 2 ^ c
-      whole =
+      sum-is : w + 2 ^ b ≡ w + 2 ^ suc k * 2 ^ c
+      sum-is =
           let f : suc k + c ≡ b = omega arith in
           ap (λ (x : ℕ). w + x) (ap (λ (x : ℕ). 2 ^ x) (sym f) ∙ pow-add 2 (suc k) c)
 

@@ -83,21 +83,21 @@ module _ (g h : ℕ → ℕ → ℕ) (ws : List ℕ) where
           swap (getD ws (u / 64) 0) (u % 64) (v % 64) (λ z. n (omega arith)),
         )
 
-    past : v / 64 ≡ u / 64 → length ws ≤ u / 64 → laid h (laid g ws u) v ≡ laid g (laid h ws v) u
-    past e l = rw (e, set-out ws (u / 64) (g (getD ws (u / 64) 0) (u % 64)) l, set-out ws (u / 64) (h (getD ws (u / 64) 0) (v % 64)) l, set-out ws (u / 64) (g (getD ws (u / 64) 0) (u % 64)) l)
+    no-word : v / 64 ≡ u / 64 → length ws ≤ u / 64 → laid h (laid g ws u) v ≡ laid g (laid h ws v) u
+    no-word e l = rw (e, set-out ws (u / 64) (g (getD ws (u / 64) 0) (u % 64)) l, set-out ws (u / 64) (h (getD ws (u / 64) 0) (v % 64)) l, set-out ws (u / 64) (g (getD ws (u / 64) 0) (u % 64)) l)
 
     laid-order : laid h (laid g ws u) v ≡ laid g (laid h ws v) u
     laid-order = go (eqb (v / 64) (u / 64)) refl (ltb (u / 64) (length ws)) refl
       where
         go : (b : Bool) → eqb (v / 64) (u / 64) ≡ b → (c : Bool) → ltb (u / 64) (length ws) ≡ c → laid h (laid g ws u) v ≡ laid g (laid h ws v) u
         go true e true l = within (eqb-true (v / 64) (u / 64) e) (ltb-true (u / 64) (length ws) l)
-        go true e false l = past (eqb-true (v / 64) (u / 64) e) (ltb-false (u / 64) (length ws) l)
+        go true e false l = no-word (eqb-true (v / 64) (u / 64) e) (ltb-false (u / 64) (length ws) l)
         go false e c l =
             let d = eqb-false (v / 64) (u / 64) e in
             apart (λ z. d (sym z))
 
-    either-order : changed h (changed g ws u) v ≡ changed g (changed h ws v) u
-    either-order =
+    changes-order : changed h (changed g ws u) v ≡ changed g (changed h ws v) u
+    changes-order =
         by-room u
         (λ r. by-room v
         (λ s. rw (changed-in g ws u r, changed-in h ws v s, changed-in h (laid g ws u) v s, changed-in g (laid h ws v) u r) laid-order)
@@ -119,10 +119,10 @@ module _ (ws : List ℕ) (u : ℕ) where
 
   module _ (v : ℕ) (n : u ≡ v → ⊥) where
     pub with-with-tag : withTag (withTag ws u) v ≡ withTag (withTag ws v) u
-    with-with-tag = either-order withBit withBit ws with-with u v n
+    with-with-tag = changes-order withBit withBit ws with-with u v n
 
     pub without-without-tag : withoutTag (withoutTag ws u) v ≡ withoutTag (withoutTag ws v) u
-    without-without-tag = either-order withoutBit withoutBit ws without-without u v n
+    without-without-tag = changes-order withoutBit withoutBit ws without-without u v n
 
     pub without-with-tag : withoutTag (withTag ws u) v ≡ withTag (withoutTag ws v) u
-    without-with-tag = either-order withBit withoutBit ws without-with u v n
+    without-with-tag = changes-order withBit withoutBit ws without-with u v n

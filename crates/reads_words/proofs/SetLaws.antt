@@ -71,8 +71,8 @@ module _ (g : ℕ → ℕ → ℕ) (ws : List ℕ) (tag : ℕ) where
   changed-same h l = rw (changed-in h) (contains-in _ tag h ∙ rw (getD-set-same ws (tag / 64) (g (getD ws (tag / 64) 0) (tag % 64)) 0 l))
 
   -- past the words there is no tag
-  changed-past : length ws ≤ tag / 64 → contains (changed g ws tag) tag ≡ false
-  changed-past l = none-in (changed g ws tag) tag (List·getD-eq-default (changed g ws tag) 0 (rw length-changed l))
+  changed-no-word : length ws ≤ tag / 64 → contains (changed g ws tag) tag ≡ false
+  changed-no-word l = none-in (changed g ws tag) tag (List·getD-eq-default (changed g ws tag) 0 (rw length-changed l))
 
   -- what keeps the word's other bits keeps every other tag
   module _ (f : (w c : ℕ) → (c ≡ tag % 64 → ⊥) → bit (g w (tag % 64)) c ≡ bit w c) (u : ℕ) (n : u ≡ tag → ⊥) where
@@ -106,7 +106,7 @@ module _ (ws : List ℕ) (tag : ℕ) where
     where
       go : tag < capacity → (c : Bool) → ltb (tag / 64) (length ws) ≡ c → contains (withoutTag ws tag) tag ≡ false
       go h true l = changed-same withoutBit ws tag h (ltb-true (tag / 64) (length ws) l) ∙ without-same (getD ws (tag / 64) 0) (tag % 64)
-      go h false l = changed-past withoutBit ws tag (ltb-false (tag / 64) (length ws) l)
+      go h false l = changed-no-word withoutBit ws tag (ltb-false (tag / 64) (length ws) l)
 
   pub in-with-other : (u : ℕ) → (u ≡ tag → ⊥) → contains (withTag ws tag) u ≡ contains ws u
   in-with-other = changed-other withBit ws tag (λ w. with-other w (tag % 64))

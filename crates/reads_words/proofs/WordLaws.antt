@@ -12,7 +12,8 @@ use lib.Pow.{pow-pos, high, low, shr-shr}
 use native.Mathlib.Nat.{mod-lt, mod-eq-of-lt}
 use Rattle.reads_rules.specs.declared.read.Read.{Read}
 use Rattle.reads_words.specs.Capacity.{capacity}
-use Rattle.reads_words.specs.Words.{sizesOf, marksOf, readOf, readAt, putWords, putRead, clearRead, Fits}
+use Rattle.reads_words.specs.Words.{sizesOf, marksOf, readOf, readAt, putWords, putRead, clearRead}
+use Rattle.reads_words.specs.Inner.Fits.{Fits}
 use Rattle.reads_words.proofs.SetLaws.{by-room, set-zeros}
 
 -- ---- the words of a tag
@@ -42,8 +43,8 @@ module _ (ws : List ℕ) (i a b c d : ℕ) where
       ∙ getD-set-other ws i k a 0 n₀))
 
   -- a word at another place, before or after the four
-  four-past : (k y : ℕ) → (i ≡ k → ⊥) → (i + 1 ≡ k → ⊥) → (i + 2 ≡ k → ⊥) → (i + 3 ≡ k → ⊥) → set four k y ≡ set (set (set (set (set ws k y) i a) (i + 1) b) (i + 2) c) (i + 3) d
-  four-past k y n₀ n₁ n₂ n₃ = rw (set-comm three (i + 3) k d y n₃, set-comm two (i + 2) k c y n₂, set-comm one (i + 1) k b y n₁, set-comm ws i k a y n₀)
+  four-set-other : (k y : ℕ) → (i ≡ k → ⊥) → (i + 1 ≡ k → ⊥) → (i + 2 ≡ k → ⊥) → (i + 3 ≡ k → ⊥) → set four k y ≡ set (set (set (set (set ws k y) i a) (i + 1) b) (i + 2) c) (i + 3) d
+  four-set-other k y n₀ n₁ n₂ n₃ = rw (set-comm three (i + 3) k d y n₃, set-comm two (i + 2) k c y n₂, set-comm one (i + 1) k b y n₁, set-comm ws i k a y n₀)
 
   module _ (l : i + 3 < length ws) where
     four-0 : getD four i 0 ≡ a
@@ -134,10 +135,10 @@ four-order : (ws : List ℕ) (u v a b c d a′ b′ c′ d′ : ℕ) → (u ≡ 
     → four (four ws (4 * u) a b c d) (4 * v) a′ b′ c′ d′ ≡ four (four ws (4 * v) a′ b′ c′ d′) (4 * u) a b c d
 four-order ws u v a b c d a′ b′ c′ d′ n =
     rw (
-      four-past ws (4 * u) a b c d (4 * v) a′ (λ z. n (omega arith)) (λ z. omega arith) (λ z. omega arith) (λ z. omega arith),
-      four-past (set ws (4 * v) a′) (4 * u) a b c d (4 * v + 1) b′ (λ z. omega arith) (λ z. n (omega arith)) (λ z. omega arith) (λ z. omega arith),
-      four-past (set (set ws (4 * v) a′) (4 * v + 1) b′) (4 * u) a b c d (4 * v + 2) c′ (λ z. omega arith) (λ z. omega arith) (λ z. n (omega arith)) (λ z. omega arith),
-      four-past (set (set (set ws (4 * v) a′) (4 * v + 1) b′) (4 * v + 2) c′) (4 * u) a b c d (4 * v + 3) d′ (λ z. omega arith) (λ z. omega arith) (λ z. omega arith) (λ z. n (omega arith)),
+      four-set-other ws (4 * u) a b c d (4 * v) a′ (λ z. n (omega arith)) (λ z. omega arith) (λ z. omega arith) (λ z. omega arith),
+      four-set-other (set ws (4 * v) a′) (4 * u) a b c d (4 * v + 1) b′ (λ z. omega arith) (λ z. n (omega arith)) (λ z. omega arith) (λ z. omega arith),
+      four-set-other (set (set ws (4 * v) a′) (4 * v + 1) b′) (4 * u) a b c d (4 * v + 2) c′ (λ z. omega arith) (λ z. omega arith) (λ z. n (omega arith)) (λ z. omega arith),
+      four-set-other (set (set (set ws (4 * v) a′) (4 * v + 1) b′) (4 * v + 2) c′) (4 * u) a b c d (4 * v + 3) d′ (λ z. omega arith) (λ z. omega arith) (λ z. omega arith) (λ z. n (omega arith)),
     )
 
 pub words-order : (ws : List ℕ) (u v a b c d a′ b′ c′ d′ : ℕ) → (u ≡ v → ⊥) → putWords (putWords ws u a b c d) v a′ b′ c′ d′ ≡ putWords (putWords ws v a′ b′ c′ d′) u a b c d

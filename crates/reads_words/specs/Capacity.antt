@@ -1,4 +1,4 @@
--- How many tags a table has room for.
+-- How many tags a table has room for; the tags that may be opened are fewer. A reader must believe it.
 use Prim.Native.Nat.{ℕ}
 
 -- the tags that there is room for are those below

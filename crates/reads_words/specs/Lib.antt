@@ -1,3 +1,4 @@
 pub mod Capacity
 pub mod TagSets
 pub mod Words
+pub mod Inner

@@ -1,5 +1,7 @@
--- A set of tags as a list of words of 64 bits: tag mod 64 is the bit, tag div 64 the word. A tag that there is no room for is in no set, and putting
--- it in or taking it out changes nothing.
+-- Document 01: "A tag's record is whether it is open", as a set of tags in words of 64 bits: tag mod 64 is the bit,
+-- tag div 64 the word. A tag that there is no room for is in no set, and putting it in or taking it out changes
+-- nothing. A reader must believe `contains`, `withTag` and `withoutTag`; the last two definitions serve the scans
+-- alone.
 use Prim.Native.Nat.{ℕ, _+_, _-_, _/_, _%_, _^_}
 use mathlib.Core.Bool.{Bool, false}
 use mathlib.Core.List.{List}
@@ -18,6 +20,7 @@ withBit w b = pick (bit w b) w (w + 2 ^ b)
 unfoldable pub withoutBit : ℕ → ℕ → ℕ
 withoutBit w b = pick (bit w b) (w - 2 ^ b) w
 
+-- whether a tag is in the set
 unfoldable pub contains : List ℕ → ℕ → Bool
 contains ws tag = pick (ltb tag capacity) (bit (getD ws (tag / 64) 0) (tag % 64)) false
 
@@ -25,6 +28,7 @@ contains ws tag = pick (ltb tag capacity) (bit (getD ws (tag / 64) 0) (tag % 64)
 unfoldable pub changed : (ℕ → ℕ → ℕ) → List ℕ → ℕ → List ℕ
 changed g ws tag = pick (ltb tag capacity) (set ws (tag / 64) (g (getD ws (tag / 64) 0) (tag % 64))) ws
 
+-- a set with a tag in it, and without it
 abbrev pub withTag : List ℕ → ℕ → List ℕ
 withTag ws tag = changed withBit ws tag
 

@@ -1,10 +1,10 @@
--- Reads as a list of words of 64 bits, four for each tag.
-use Prim.Native.Nat.{ℕ, _+_, _*_, _/_, _%_, _^_, _<_}
+-- Document 01: "A tag's record is .. p and what open got", as words of 64 bits, four for each tag. A reader must
+-- believe that `readAt`, `putRead` and `clearRead` are of a tag's own words.
+use Prim.Native.Nat.{ℕ, _+_, _*_, _/_, _%_, _^_}
 use mathlib.Core.List.{List}
 use lib.Dec.{ltb}
 use lib.ListN.{getD, set}
 use Rattle.bits.specs.Choice.{pick}
-use Rattle.reads_rules.specs.declared.request.ReadRequest.{ReadRequest}
 use Rattle.reads_rules.specs.declared.read.Read.{Read}
 use Rattle.reads_words.specs.Capacity.{capacity}
 
@@ -14,13 +14,19 @@ sizesOf length taken = taken * 2 ^ 32 + length
 
 -- a byte each, the first enables lowest
 abbrev pub marksOf : ℕ → ℕ → ℕ → ℕ → ℕ
-marksOf first last «traffic_class» attributes = ((attributes * 2 ^ 8 + «traffic_class») * 2 ^ 8 + last) * 2 ^ 8 + first
+marksOf first last «traffic_class» attributes =
+    ((attributes * 2 ^ 8 + «traffic_class») * 2 ^ 8 + last) * 2 ^ 8 + first
 
 -- a read from its words
 unfoldable pub readOf : ℕ → ℕ → ℕ → ℕ → Read
 readOf address start sizes marks = record {
   request = record {
-    access = record { address = address; length = sizes % 2 ^ 32; first = marks % 2 ^ 8; last = marks / 2 ^ 8 % 2 ^ 8 };
+    access = record {
+      address = address;
+      length = sizes % 2 ^ 32;
+      first = marks % 2 ^ 8;
+      last = marks / 2 ^ 8 % 2 ^ 8;
+    };
     «traffic_class» = marks / 2 ^ 16 % 2 ^ 8;
     attributes = marks / 2 ^ 24 % 2 ^ 8;
     start = start;
@@ -38,22 +44,17 @@ readAt ws tag =
 -- the four words of a tag, and none of a tag that there is no room for
 unfoldable pub putWords : List ℕ → ℕ → ℕ → ℕ → ℕ → ℕ → List ℕ
 putWords ws tag address start sizes marks =
-    pick (ltb tag capacity) (set (set (set (set ws (4 * tag) address) (4 * tag + 1) start) (4 * tag + 2) sizes) (4 * tag + 3) marks) ws
+    pick (ltb tag capacity)
+    (set (set (set (set ws (4 * tag) address) (4 * tag + 1) start) (4 * tag + 2) sizes) (4 * tag + 3) marks)
+    ws
 
 -- a read laid over the words of a tag
 unfoldable pub putRead : List ℕ → ℕ → Read → List ℕ
 putRead ws tag r =
     putWords ws tag (r .request .access .address) (r .request .start) (sizesOf (r .request .access .length) (r .taken))
-    (marksOf (r .request .access .first) (r .request .access .last) (r .request .«traffic_class») (r .request .attributes))
+    (marksOf (r .request .access .first) (r .request .access .last) (r .request .«traffic_class»)
+    (r .request .attributes))
 
 -- the words of a free tag
 unfoldable pub clearRead : List ℕ → ℕ → List ℕ
 clearRead ws tag = putWords ws tag 0 0 0 0
-
--- the fields that share a word fit their types; of address, start and doublewords taken nothing is asked
-pub record Fits (q : ReadRequest) : Type 0 where
-  pub length-fits : q .access .length < 2 ^ 32
-  pub first-fits : q .access .first < 2 ^ 8
-  pub last-fits : q .access .last < 2 ^ 8
-  pub class-fits : q .«traffic_class» < 2 ^ 8
-  pub attributes-fit : q .attributes < 2 ^ 8

@@ -2,5 +2,6 @@
 pub mod tag_set;
 pub mod words;
 
-// The tags that there is room for are those below. A tag over it is in no set and has no words: putting it changes nothing.
+// The tags that there is room for are those below. A tag over it is in no set and has no words: putting it changes
+// nothing.
 pub const CAPACITY: usize = 256;

@@ -8,6 +8,7 @@ ghost use Rattle.reads_words.specs.TagSets.{withBit, withoutBit, without
 
 pub type TagSet = [u64; CAPACITY / 64];
 
+// Whether bit b of a word is set.
 fn has_bit(w: u64, b: usize) -> bool
     requires { ⌜ b < 64 ⌝ }
     ensures { λ r. ⌜ r ≡ bit w b ⌝ }
@@ -15,6 +16,7 @@ fn has_bit(w: u64, b: usize) -> bool
     (w >> b) % 2 == 1
 }
 
+// A word with bit b set.
 fn with_bit(w: u64, b: usize) -> u64
     requires { ⌜ b < 64 ⌝ }
     ensures { λ r. ⌜ r ≡ withBit w b ⌝ }
@@ -25,6 +27,7 @@ fn with_bit(w: u64, b: usize) -> u64
     w + (1 << b)
 }
 
+// A word with bit b clear.
 fn without_bit(w: u64, b: usize) -> u64
     requires { ⌜ b < 64 ⌝ }
     ensures { λ r. ⌜ r ≡ withoutBit w b ⌝ }
@@ -35,6 +38,7 @@ fn without_bit(w: u64, b: usize) -> u64
     w
 }
 
+// Whether a tag is in the set.
 pub fn contains(tags: &TagSet, tag: usize) -> bool
     ensures { λ r. ⌜ r ≡ contains (now (tags .entry)) tag ⌝ }
 {
@@ -45,6 +49,7 @@ pub fn contains(tags: &TagSet, tag: usize) -> bool
     has_bit(tags[j], tag % 64)
 }
 
+// Puts a tag into the set.
 pub fn with_tag(tags: &mut TagSet, tag: usize)
     ensures { λ _. ⌜ now (tags .exit) ≡ withTag (now (tags .entry)) tag ⌝ }
 {
@@ -55,6 +60,7 @@ pub fn with_tag(tags: &mut TagSet, tag: usize)
     tags[j] = with_bit(tags[j], tag % 64);
 }
 
+// Takes a tag out of the set.
 pub fn without_tag(tags: &mut TagSet, tag: usize)
     ensures { λ _. ⌜ now (tags .exit) ≡ withoutTag (now (tags .entry)) tag ⌝ }
 {
@@ -67,6 +73,7 @@ pub fn without_tag(tags: &mut TagSet, tag: usize)
 
 // ---- the tags of a set, a word at a time
 
+// The lowest n bits of a word.
 fn low_bits(w: u64, n: usize) -> u64
     ensures { λ r. ⌜ r ≡ low w n ⌝ }
 {

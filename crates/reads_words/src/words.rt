@@ -8,19 +8,21 @@ ghost use Rattle.reads_words.specs.Words.{sizesOf, marksOf, readOf, read
 
 pub type Words = [u64; 4 * CAPACITY];
 
+// The third word of a read.
 fn sizes_of(length: u32, taken: u32) -> u64
     ensures { λ w. ⌜ w ≡ sizesOf length taken ⌝ }
 {
     taken as u64 * 4294967296 + length as u64
 }
 
+// The fourth word of a read.
 fn marks_of(first: u8, last: u8, traffic_class: u8, attributes: u8) -> u64
     ensures { λ w. ⌜ w ≡ marksOf first last «traffic_class» attributes ⌝ }
 {
     ((attributes as u64 * 256 + traffic_class as u64) * 256 + last as u64) * 256 + first as u64
 }
 
-// A read from its words.
+// A read from its four words.
 pub fn read_of(address: u64, start: u64, sizes: u64, marks: u64) -> Read
     ensures { λ r. ⌜ r ≡ readOf address start sizes marks ⌝ }
 {
@@ -40,6 +42,7 @@ pub fn read_of(address: u64, start: u64, sizes: u64, marks: u64) -> Read
     }
 }
 
+// The read that a tag's words hold.
 pub fn read_at(words: &Words, tag: usize) -> Read
     ensures { λ r. ⌜ r ≡ readAt (now (words .entry)) tag ⌝ }
 {
@@ -50,6 +53,7 @@ pub fn read_at(words: &Words, tag: usize) -> Read
     read_of(words[i], words[i + 1], words[i + 2], words[i + 3])
 }
 
+// Lays four words over those of a tag.
 fn put_words(words: &mut Words, tag: usize, address: u64, start: u64, sizes: u64, marks: u64)
     ensures { λ _. ⌜ now (words .exit) ≡ putWords (now (words .entry)) tag address start sizes marks ⌝ }
 {
@@ -63,6 +67,7 @@ fn put_words(words: &mut Words, tag: usize, address: u64, start: u64, sizes: u64
     words[i + 3] = marks;
 }
 
+// Lays a read over the words of a tag.
 pub fn put_read(words: &mut Words, tag: usize, r: Read)
     ensures { λ _. ⌜ now (words .exit) ≡ putRead (now (words .entry)) tag r ⌝ }
 {
@@ -78,7 +83,7 @@ pub fn put_read(words: &mut Words, tag: usize, r: Read)
     );
 }
 
-// A free tag's words have one form.
+// Clears the words of a tag: those of a free one have one form.
 pub fn clear_read(words: &mut Words, tag: usize)
     ensures { λ _. ⌜ now (words .exit) ≡ clearRead (now (words .entry)) tag ⌝ }
 {

@@ -51,11 +51,11 @@ merged-split f k (suc i) (d ∷ ds) (x ∷ xs) =
     rw (e, merged-split f (suc k) i ds xs)
 
 -- where the test holds of every index, all is laid
-pub merged-whole : (f : ℕ → Bool) (k : ℕ) (ds xs : List ℕ) → length ds ≡ length xs → ((i : ℕ) → i < length ds → f (k + i) ≡ true) → merged f k ds xs ≡ ds
+pub merged-all : (f : ℕ → Bool) (k : ℕ) (ds xs : List ℕ) → length ds ≡ length xs → ((i : ℕ) → i < length ds → f (k + i) ≡ true) → merged f k ds xs ≡ ds
 unfolding merged
-merged-whole f k [] [] z h = refl
-merged-whole f k [] (x ∷ xs) z h = absurd (omega arith)
-merged-whole f k (d ∷ ds) [] z h = absurd (omega arith)
-merged-whole f k (d ∷ ds) (x ∷ xs) z h =
+merged-all f k [] [] z h = refl
+merged-all f k [] (x ∷ xs) z h = absurd (omega arith)
+merged-all f k (d ∷ ds) [] z h = absurd (omega arith)
+merged-all f k (d ∷ ds) (x ∷ xs) z h =
     let t : f k ≡ true = rw add-zero at (h 0 (omega arith)) in
-    rw (t, merged-whole f (suc k) ds xs (omega arith) (λ i l. let e : k + suc i ≡ suc k + i = omega arith in rw e at (h (suc i) (omega arith))))
+    rw (t, merged-all f (suc k) ds xs (omega arith) (λ i l. let e : k + suc i ≡ suc k + i = omega arith in rw e at (h (suc i) (omega arith))))

@@ -1,4 +1,5 @@
--- Elements laid over others where a test of their index says so.
+-- Elements laid over others where a test of their index says so. A reader must believe `merged`: a payload is laid
+-- over the store by it.
 use Prim.Native.Nat.{ℕ, suc}
 use mathlib.Core.List.{List, [], _∷_}
 use mathlib.Core.Bool.{Bool}

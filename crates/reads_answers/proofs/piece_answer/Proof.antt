@@ -12,8 +12,8 @@ returns c = search answer-laws
 read-in-requires : tie.Need-read-in-requires
 read-in-requires c κs = search needs
 
-outcome-of-requires : tie.Need-outcome-of-requires
-outcome-of-requires c κs = search needs
+outcome-requires : tie.Need-outcome-requires
+outcome-requires c κs = search needs
 
 returns-2 : tie.Need-returns-2
 returns-2 c = search answer-laws
@@ -21,4 +21,4 @@ returns-2 c = search answer-laws
 pub piece-answer-spec : {M : Type 1} → statement M
 piece-answer-spec =
     tie.close
-    (tie.spec piece-number-requires returns read-in-requires outcome-of-requires returns-2)
+    (tie.spec piece-number-requires returns read-in-requires outcome-requires returns-2)

@@ -15,8 +15,8 @@ returns-2 c = search number-laws
 read-in-requires : tie.Need-read-in-requires
 read-in-requires c κs = search needs
 
-differs-from-requires : tie.Need-differs-from-requires
-differs-from-requires c κs = search needs
+differs-requires : tie.Need-differs-requires
+differs-requires c κs = search needs
 
 returns-3 : tie.Need-returns-3
 returns-3 c = search number-laws
@@ -27,14 +27,14 @@ status-bad-requires c κs = search needs
 returns-4 : tie.Need-returns-4
 returns-4 c = search number-laws
 
-has-success-requires : tie.Need-has-success-requires
-has-success-requires c κs = search needs
+succeeds-requires : tie.Need-succeeds-requires
+succeeds-requires c κs = search needs
 
 returns-5 : tie.Need-returns-5
 returns-5 c = search number-laws
 
-is-legal-requires : tie.Need-is-legal-requires
-is-legal-requires c κs = search needs
+legal-requires : tie.Need-legal-requires
+legal-requires c κs = search needs
 
 returns-6 : tie.Need-returns-6
 returns-6 c = search number-laws
@@ -56,13 +56,13 @@ piece-number-spec =
     is-open-requires
     returns-2
     read-in-requires
-    differs-from-requires
+    differs-requires
     returns-3
     status-bad-requires
     returns-4
-    has-success-requires
+    succeeds-requires
     returns-5
-    is-legal-requires
+    legal-requires
     returns-6
     holds-window-requires
     returns-7

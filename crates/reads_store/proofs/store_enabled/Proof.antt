@@ -9,8 +9,8 @@ mul-k c = search needs
 lesser-requires : tie.Need-lesser-requires
 lesser-requires c κs = search needs
 
-all-whole-requires : tie.Need-all-whole-requires
-all-whole-requires c κs = search needs
+all-enabled-requires : tie.Need-all-enabled-requires
+all-enabled-requires c κs = search needs
 
 copy-front-requires : tie.Need-copy-front-requires
 copy-front-requires c κs = search needs
@@ -36,7 +36,7 @@ store-enabled-spec =
     (tie.spec
     mul-k
     lesser-requires
-    all-whole-requires
+    all-enabled-requires
     copy-front-requires
     same-length
     returns

@@ -7,23 +7,23 @@ use borrow.Author.Needs.{needs}
 use Rattle.reads_store.proofs.store_runs.Statement.{statement}
 use Rattle.reads_store.proofs.store_runs.Tie as tie
 
-whole-from-requires : tie.Need-whole-from-requires
-whole-from-requires c κs = search needs
+enabled-from-requires : tie.Need-enabled-from-requires
+enabled-from-requires c κs = search needs
 
-past-requires : tie.Need-past-requires
-past-requires c κs = search needs
+bytes-up-to-requires : tie.Need-bytes-up-to-requires
+bytes-up-to-requires c κs = search needs
 
 lesser-requires : tie.Need-lesser-requires
 lesser-requires c κs = search needs
 
-add-whole-run : tie.Need-add-whole-run
-add-whole-run c = search needs
+add-enabled-run : tie.Need-add-enabled-run
+add-enabled-run c = search needs
 
-sub-whole-run : tie.Need-sub-whole-run
-sub-whole-run c = search needs
+sub-enabled-run : tie.Need-sub-enabled-run
+sub-enabled-run c = search needs
 
-whole-run-requires : tie.Need-whole-run-requires
-whole-run-requires c κs = search needs
+enabled-run-requires : tie.Need-enabled-run-requires
+enabled-run-requires c κs = search needs
 
 slice-aggregate-store-tested : tie.Need-slice-aggregate-store-tested
 slice-aggregate-store-tested c = sym (length-take-le _ _ (omega arith))
@@ -37,29 +37,29 @@ slice-aggregate-store-tested-2 c = sym (length-take-le _ _ (omega arith))
 store-tested-requires : tie.Need-store-tested-requires
 store-tested-requires c κs = simp length-take (omega arith)
 
-add-store-whole : tie.Need-add-store-whole
-add-store-whole c = search needs
+add-store-run-and-rest : tie.Need-add-store-run-and-rest
+add-store-run-and-rest c = search needs
 
-sub-store-whole : tie.Need-sub-store-whole
-sub-store-whole c = search needs
+sub-store-run-and-rest : tie.Need-sub-store-run-and-rest
+sub-store-run-and-rest c = search needs
 
-part-store-whole-start : tie.Need-part-store-whole-start
-part-store-whole-start c = search needs
+part-store-run-and-rest-start : tie.Need-part-store-run-and-rest-start
+part-store-run-and-rest-start c = search needs
 
-part-store-whole-end : tie.Need-part-store-whole-end
-part-store-whole-end c = search needs
+part-store-run-and-rest-end : tie.Need-part-store-run-and-rest-end
+part-store-run-and-rest-end c = search needs
 
-sub-store-whole-2 : tie.Need-sub-store-whole-2
-sub-store-whole-2 c = search needs
+sub-store-run-and-rest-2 : tie.Need-sub-store-run-and-rest-2
+sub-store-run-and-rest-2 c = search needs
 
-part-store-whole-start-2 : tie.Need-part-store-whole-start-2
-part-store-whole-start-2 c = search needs
+part-store-run-and-rest-start-2 : tie.Need-part-store-run-and-rest-start-2
+part-store-run-and-rest-start-2 c = search needs
 
-part-store-whole-end-2 : tie.Need-part-store-whole-end-2
-part-store-whole-end-2 c = search needs
+part-store-run-and-rest-end-2 : tie.Need-part-store-run-and-rest-end-2
+part-store-run-and-rest-end-2 c = search needs
 
-store-whole-requires : tie.Need-store-whole-requires
-store-whole-requires c κs = search needs
+store-run-and-rest-requires : tie.Need-store-run-and-rest-requires
+store-run-and-rest-requires c κs = search needs
 
 same-length : tie.Need-same-length
 same-length c = search needs
@@ -71,23 +71,23 @@ pub store-runs-spec : {M : Type 1} → statement M
 store-runs-spec =
     tie.close
     (tie.spec
-    whole-from-requires
-    past-requires
+    enabled-from-requires
+    bytes-up-to-requires
     lesser-requires
-    add-whole-run
-    sub-whole-run
-    whole-run-requires
+    add-enabled-run
+    sub-enabled-run
+    enabled-run-requires
     slice-aggregate-store-tested
     slice-relend-prefix-store-tested
     slice-aggregate-store-tested-2
     store-tested-requires
-    add-store-whole
-    sub-store-whole
-    part-store-whole-start
-    part-store-whole-end
-    sub-store-whole-2
-    part-store-whole-start-2
-    part-store-whole-end-2
-    store-whole-requires
+    add-store-run-and-rest
+    sub-store-run-and-rest
+    part-store-run-and-rest-start
+    part-store-run-and-rest-end
+    sub-store-run-and-rest-2
+    part-store-run-and-rest-start-2
+    part-store-run-and-rest-end-2
+    store-run-and-rest-requires
     same-length
     returns)

@@ -1,5 +1,5 @@
 use mathlib.Core.Path.{_≡_, refl}
-use Prim.Native.Nat.{_-_, _*_, _≤_}
+use Prim.Native.Nat.{_-_, _≤_}
 use native.Mathlib.Omega.{arith}
 use lib.ListN.{length, take, length-set}
 use Rattle.byte_enables.specs.Enables.{enabled}
@@ -30,14 +30,14 @@ add-enabled-at c = search needs
 enabled-at-requires : tie.Need-enabled-at-requires Inv-loop μ-loop
 enabled-at-requires c κs = search needs
 
-shared-slice-read-chosen : tie.Need-shared-slice-read-chosen Inv-loop μ-loop
-shared-slice-read-chosen c = search needs
+shared-slice-read-laid-byte : tie.Need-shared-slice-read-laid-byte Inv-loop μ-loop
+shared-slice-read-laid-byte c = search needs
 
-slice-read-chosen : tie.Need-slice-read-chosen Inv-loop μ-loop
-slice-read-chosen c = search needs
+slice-read-laid-byte : tie.Need-slice-read-laid-byte Inv-loop μ-loop
+slice-read-laid-byte c = search needs
 
-chosen-requires : tie.Need-chosen-requires Inv-loop μ-loop
-chosen-requires c κs = search needs
+laid-byte-requires : tie.Need-laid-byte-requires Inv-loop μ-loop
+laid-byte-requires c κs = search needs
 
 slice-write-part : tie.Need-slice-write-part Inv-loop μ-loop
 slice-write-part c = search needs
@@ -68,9 +68,9 @@ store-tested-spec =
     returns
     add-enabled-at
     enabled-at-requires
-    shared-slice-read-chosen
-    slice-read-chosen
-    chosen-requires
+    shared-slice-read-laid-byte
+    slice-read-laid-byte
+    laid-byte-requires
     slice-write-part
     add-i
     loop-less

@@ -3,8 +3,8 @@ use borrow.Author.Needs.{needs}
 use Rattle.reads.proofs.open.open_lent.Statement.{statement}
 use Rattle.reads.proofs.open.open_lent.Tie as tie
 
-open-number-requires : tie.Need-open-number-requires
-open-number-requires c κs = search needs
+number-before-12-requires : tie.Need-number-before-12-requires
+number-before-12-requires c κs = search needs
 
 open-answer-requires : tie.Need-open-answer-requires
 open-answer-requires c κs = λ h. search tag-fits
@@ -31,7 +31,7 @@ pub open-lent-spec : {M : Type 1} → statement M
 open-lent-spec =
     tie.close
     (tie.spec
-    open-number-requires
+    number-before-12-requires
     open-answer-requires
     opens-requires
     same-length

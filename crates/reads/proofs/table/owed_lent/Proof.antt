@@ -3,8 +3,8 @@ use borrow.Author.Needs.{needs}
 use Rattle.reads.proofs.table.owed_lent.Statement.{statement}
 use Rattle.reads.proofs.table.owed_lent.Tie as tie
 
-is-valid-requires : tie.Need-is-valid-requires
-is-valid-requires c κs = search needs
+valid-table-requires : tie.Need-valid-table-requires
+valid-table-requires c κs = search needs
 
 returns : tie.Need-returns
 returns c = search (owed-laws, needs)
@@ -25,7 +25,7 @@ pub owed-lent-spec : {M : Type 1} → statement M
 owed-lent-spec =
     tie.close
     (tie.spec
-    is-valid-requires
+    valid-table-requires
     returns
     tag-limit-requires
     cast-tags-owed

@@ -3,8 +3,8 @@ use borrow.Author.Needs.{needs}
 use Rattle.reads.proofs.take.outcome_of.Statement.{statement}
 use Rattle.reads.proofs.take.outcome_of.Tie as tie
 
-is-valid-requires : tie.Need-is-valid-requires
-is-valid-requires c κs = search needs
+valid-table-requires : tie.Need-valid-table-requires
+valid-table-requires c κs = search needs
 
 state-at-requires : tie.Need-state-at-requires
 state-at-requires c κs = search needs
@@ -21,4 +21,4 @@ returns c = (search outcome-seen, search laid-seen)
 pub outcome-of-spec : {M : Type 1} → statement M
 outcome-of-spec =
     tie.close
-    (tie.spec is-valid-requires state-at-requires take-outcome-requires same-length returns)
+    (tie.spec valid-table-requires state-at-requires take-outcome-requires same-length returns)

@@ -8,19 +8,19 @@ crosses-page-requires : tie.Need-crosses-page-requires
 crosses-page-requires c κs = search needs
 
 returns : tie.Need-returns
-returns c = search (or-laws, not-same) depth 8
+returns c = search or-laws depth 8
 
 over-request-size-requires : tie.Need-over-request-size-requires
 over-request-size-requires c κs = search needs
 
 returns-2 : tie.Need-returns-2
-returns-2 c = search (or-laws, not-same) depth 8
+returns-2 c = search or-laws depth 8
 
 place-bad-requires : tie.Need-place-bad-requires
 place-bad-requires c κs = search needs
 
 returns-3 : tie.Need-returns-3
-returns-3 c = search (or-laws, not-same) depth 8
+returns-3 c = search or-laws depth 8
 
 enables-allowed-requires : tie.Need-enables-allowed-requires
 enables-allowed-requires c κs = search needs

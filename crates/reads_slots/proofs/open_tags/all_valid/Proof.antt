@@ -11,10 +11,10 @@ use Rattle.reads_slots.proofs.open_tags.all_valid.Statement.{statement}
 use Rattle.reads_slots.proofs.open_tags.all_valid.Tie as tie
 
 abbrev Inv-loop : tie.InvT-loop
-Inv-loop s limit opened words j₀ j = (j ≤ capacity / 64) × (allBelow (64 * j) (validAt s limit opened words) ≡ true)
+Inv-loop settings limit opened words j₀ j = (j ≤ capacity / 64) × (allBelow (64 * j) (validAt settings limit opened words) ≡ true)
 
 abbrev μ-loop : tie.MeasureT-loop
-μ-loop s limit opened words j₀ j = capacity / 64 - j
+μ-loop settings limit opened words j₀ j = capacity / 64 - j
 
 loop-holds : tie.Need-loop-holds Inv-loop μ-loop
 loop-holds c = (omega arith, search scan-laws)

@@ -3,7 +3,7 @@ use native.Mathlib.Omega.{arith}
 use mathlib.Core.Path.{_≡_}
 use native.Mathlib.Nat.{zero-add}
 use Rattle.scans.specs.Belows.{sumBelow}
-use Rattle.reads_slots.specs.WordScans.{owedInWord}
+use Rattle.reads_slots.specs.Inner.WordScans.{owedInWord}
 use borrow.Author.Needs.{needs}
 use Rattle.reads_slots.proofs.ScanLaws.{turn-laws}
 use Rattle.reads_slots.proofs.open_tags.word_owed.Statement.{statement}

@@ -2,7 +2,7 @@ use Prim.Native.Nat.{_^_, _<_}
 use native.Mathlib.Omega.{arith}
 use mathlib.Core.Path.{_≡_, refl}
 use Rattle.scans.specs.Belows.{anyBelow}
-use Rattle.reads_slots.specs.WordScans.{sharesInWord}
+use Rattle.reads_slots.specs.Inner.WordScans.{sharesInWord}
 use borrow.Author.Needs.{needs}
 use Rattle.reads_slots.proofs.ScanLaws.{turn-laws}
 use Rattle.reads_slots.proofs.open_tags.word_shares.Statement.{statement}

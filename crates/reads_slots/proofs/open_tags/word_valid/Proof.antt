@@ -2,17 +2,17 @@ use Prim.Native.Nat.{_^_, _<_}
 use native.Mathlib.Omega.{arith}
 use mathlib.Core.Path.{_≡_, refl}
 use Rattle.scans.specs.Belows.{allBelow}
-use Rattle.reads_slots.specs.WordScans.{validIn}
+use Rattle.reads_slots.specs.Inner.WordScans.{validIn}
 use borrow.Author.Needs.{needs}
 use Rattle.reads_slots.proofs.ScanLaws.{turn-laws}
 use Rattle.reads_slots.proofs.open_tags.word_valid.Statement.{statement}
 use Rattle.reads_slots.proofs.open_tags.word_valid.Tie as tie
 
 abbrev Inv-loop : tie.InvT-loop
-Inv-loop s w words from rest₀ rest = (rest < 2 ^ 64) × (allBelow 64 (validIn s rest words from) ≡ allBelow 64 (validIn s w words from))
+Inv-loop settings w words from rest₀ rest = (rest < 2 ^ 64) × (allBelow 64 (validIn settings rest words from) ≡ allBelow 64 (validIn settings w words from))
 
 abbrev μ-loop : tie.MeasureT-loop
-μ-loop s w words from rest₀ rest = rest
+μ-loop settings w words from rest₀ rest = rest
 
 loop-holds : tie.Need-loop-holds Inv-loop μ-loop
 loop-holds c = (omega arith, refl)
@@ -26,8 +26,8 @@ add-read-at c = search (turn-laws, needs)
 read-at-requires : tie.Need-read-at-requires Inv-loop μ-loop
 read-at-requires c κs = search (turn-laws, needs)
 
-read-valid-requires : tie.Need-read-valid-requires Inv-loop μ-loop
-read-valid-requires c κs = search (turn-laws, needs)
+valid-read-requires : tie.Need-valid-read-requires Inv-loop μ-loop
+valid-read-requires c κs = search (turn-laws, needs)
 
 returns : tie.Need-returns Inv-loop μ-loop
 returns c = search (turn-laws, needs)
@@ -54,7 +54,7 @@ word-valid-spec =
     lowest-bit-requires
     add-read-at
     read-at-requires
-    read-valid-requires
+    valid-read-requires
     returns
     without-lowest-requires
     loop-less

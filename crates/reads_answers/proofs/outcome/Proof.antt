@@ -1,13 +1,13 @@
 use Rattle.reads_answers.proofs.TakeLaws.{outcome-laws}
 use borrow.Author.Needs.{needs}
-use Rattle.reads_answers.proofs.outcome_of.Statement.{statement}
-use Rattle.reads_answers.proofs.outcome_of.Tie as tie
+use Rattle.reads_answers.proofs.outcome.Statement.{statement}
+use Rattle.reads_answers.proofs.outcome.Tie as tie
 
-has-success-requires : tie.Need-has-success-requires
-has-success-requires c κs = search needs
+succeeds-requires : tie.Need-succeeds-requires
+succeeds-requires c κs = search needs
 
-reported-status-requires : tie.Need-reported-status-requires
-reported-status-requires c κs = search needs
+reported-requires : tie.Need-reported-requires
+reported-requires c κs = search needs
 
 returns : tie.Need-returns
 returns c = search outcome-laws
@@ -24,12 +24,12 @@ returns-3 c = search outcome-laws
 returns-4 : tie.Need-returns-4
 returns-4 c = search outcome-laws
 
-pub outcome-of-spec : {M : Type 1} → statement M
-outcome-of-spec =
+pub outcome-spec : {M : Type 1} → statement M
+outcome-spec =
     tie.close
     (tie.spec
-    has-success-requires
-    reported-status-requires
+    succeeds-requires
+    reported-requires
     returns
     returns-2
     owed-of-requires

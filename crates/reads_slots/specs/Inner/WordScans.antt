@@ -1,4 +1,5 @@
--- What inner functions state of one word of the set, and no promise does: w is the word, from its first tag, b a bit of it.
+-- What the functions word_valid, word_shares and word_owed state of one word of the set: w is the word, from its
+-- first tag, b a bit of it.
 use Prim.Native.Nat.{ℕ, _+_}
 use mathlib.Core.Bool.{Bool}
 use mathlib.Core.List.{List}
@@ -11,11 +12,12 @@ use Rattle.reads_slots.specs.declared.State.{State}
 use Rattle.reads_slots.specs.declared.State.the-variants.{Free, Open}
 use Rattle.reads_slots.specs.Slots.{validState, sharesIn, owedIn}
 
+-- the record of a tag of the word
 unfoldable pub recordIn : ℕ → List ℕ → ℕ → ℕ → State
 recordIn w words from b = pick (bit w b) (Open (readAt words (from + b))) Free
 
 unfoldable pub validIn : Settings → ℕ → List ℕ → ℕ → ℕ → Bool
-validIn s w words from b = validState s (recordIn w words from b)
+validIn settings w words from b = validState settings (recordIn w words from b)
 
 unfoldable pub sharesInWord : ReadRequest → ℕ → List ℕ → ℕ → ℕ → Bool
 sharesInWord q w words from b = sharesIn q (recordIn w words from b)

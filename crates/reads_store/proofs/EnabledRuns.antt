@@ -1,4 +1,4 @@
--- Why the bytes from whole_from up to whole_to need no test.
+-- Why the bytes from enabled_from up to enabled_to need no test.
 use Prim.Native.Nat.{ℕ, zero, suc, _+_, _-_, _*_, _/_, _%_, _≤_, _<_}
 use mathlib.Core.Path.{_≡_, refl}
 use mathlib.Core.Bool.{Bool, true, false, false≢true}
@@ -36,15 +36,15 @@ module _ (a : Access) (from to : ℕ) (f : from < 4 → a .first % 16 ≡ 15) (t
     unfolding enabled
     within = rw at (each-bit (k % 4) (omega arith))
 
-  pub whole : (k q w : ℕ) → from ≤ k → q ≡ to - k → w ≤ q → (i : ℕ) → i < w → enabled a (k + i) ≡ true
-  whole k q w h e u i l = within (k + i) (omega arith) (omega arith)
+  pub run-enabled : (k q w : ℕ) → from ≤ k → q ≡ to - k → w ≤ q → (i : ℕ) → i < w → enabled a (k + i) ≡ true
+  run-enabled k q w h e u i l = within (k + i) (omega arith) (omega arith)
 
 module _ (a : Access) (k n : ℕ) where
   -- where both are 1111, nothing is left out
-  pub whole-all : (q : ℕ) → a .first % 16 ≡ 15 → a .last % 16 ≡ 15 → q ≡ 4 * a .length - k → leb n q ≡ true → (i : ℕ) → i < n → enabled a (k + i) ≡ true
-  whole-all q f l e h = whole a 0 (4 * a .length) (λ _. f) (omega arith, λ _. l) k q n (omega arith) e (leb-true n q h)
+  pub all-1111 : (q : ℕ) → a .first % 16 ≡ 15 → a .last % 16 ≡ 15 → q ≡ 4 * a .length - k → leb n q ≡ true → (i : ℕ) → i < n → enabled a (k + i) ≡ true
+  all-1111 q f l e h = run-enabled a 0 (4 * a .length) (λ _. f) (omega arith, λ _. l) k q n (omega arith) e (leb-true n q h)
 
-  pub whole-unknown : false ≡ true → (i : ℕ) → i < n → enabled a (k + i) ≡ true
-  whole-unknown e i l = absurd (false≢true e)
+  pub none-known : false ≡ true → (i : ℕ) → i < n → enabled a (k + i) ≡ true
+  none-known e i l = absurd (false≢true e)
 
-pub ruleset whole-laws = (whole-all, whole-unknown)
+pub ruleset enabled-laws = (all-1111, none-known)

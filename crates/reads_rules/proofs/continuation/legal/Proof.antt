@@ -1,7 +1,7 @@
 use Rattle.reads_rules.proofs.ContinuationLaws.{legal-laws}
 use borrow.Author.Needs.{needs}
-use Rattle.reads_rules.proofs.continuation.is_legal.Statement.{statement}
-use Rattle.reads_rules.proofs.continuation.is_legal.Tie as tie
+use Rattle.reads_rules.proofs.continuation.legal.Statement.{statement}
+use Rattle.reads_rules.proofs.continuation.legal.Tie as tie
 
 off-at-requires : tie.Need-off-at-requires
 off-at-requires c κs = search needs
@@ -30,8 +30,8 @@ lower-from-requires c κs = search needs
 returns-3 : tie.Need-returns-3
 returns-3 c = search legal-laws
 
-pub is-legal-spec : {M : Type 1} → statement M
-is-legal-spec =
+pub legal-spec : {M : Type 1} → statement M
+legal-spec =
     tie.close
     (tie.spec
     off-at-requires

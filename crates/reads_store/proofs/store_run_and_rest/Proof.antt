@@ -5,8 +5,8 @@ use lib.ListN.{length-take}
 use lib.Seq.{length-take-le}
 use Rattle.reads_store.proofs.Returns.{stored-laws}
 use borrow.Author.Needs.{needs}
-use Rattle.reads_store.proofs.store_whole.Statement.{statement}
-use Rattle.reads_store.proofs.store_whole.Tie as tie
+use Rattle.reads_store.proofs.store_run_and_rest.Statement.{statement}
+use Rattle.reads_store.proofs.store_run_and_rest.Tie as tie
 
 slice-aggregate-copy : tie.Need-slice-aggregate-copy
 slice-aggregate-copy c = sym (length-take-le _ _ (omega arith))
@@ -50,8 +50,8 @@ same-length c = search needs
 returns : tie.Need-returns
 returns c = search (stored-laws, le-refl, needs)
 
-pub store-whole-spec : {M : Type 1} → statement M
-store-whole-spec =
+pub store-run-and-rest-spec : {M : Type 1} → statement M
+store-run-and-rest-spec =
     tie.close
     (tie.spec
     slice-aggregate-copy

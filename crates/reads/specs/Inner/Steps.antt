@@ -1,4 +1,5 @@
--- What the calls are made of. Inner functions state these, and no promise does: what is promised is openCall, takeCall, withdrawCall and owedCall.
+-- What the functions of open.rt and take.rt state that are not public. What is promised is openCall, openOut,
+-- takeCall and takeStore.
 use Prim.Native.Nat.{ℕ, zero, suc, _*_}
 use mathlib.Core.Bool.{Bool, true, false, not}
 use mathlib.Core.List.{List, _∷_, _++_}
@@ -26,7 +27,8 @@ use Rattle.reads.specs.declared.table.Table.{Table}
 use Rattle.reads.specs.declared.take.Outcome.{Outcome}
 use Rattle.reads.specs.declared.answer.OpenAnswer.{OpenAnswer}
 use Rattle.reads.specs.declared.answer.OpenAnswer.the-variants.{Opened, Refused as OpenRefused}
-use Rattle.reads.specs.Tables.{tagLimit, stateAt, validTable}
+use Rattle.reads.specs.Tables.{tagLimit, stateAt, validTable, sharesOpen}
+use Rattle.reads.specs.OpenCall.{rulesBefore12}
 use Rattle.reads.specs.TakeCall.{advanced, storeGiven}
 
 -- whether a record is stored: on acceptance alone
@@ -37,7 +39,7 @@ opens (OpenRefused n) = false
 abbrev pub takes : TakeAnswer → Bool
 takes More = true
 takes Done = true
-takes (Failed s) = true
+takes (Failed status) = true
 takes Poisoned = true
 takes (Unread r) = false
 takes (Refused n) = false
@@ -47,16 +49,21 @@ takes (Refused n) = false
 abbrev pub recordGiven : TakeAnswer → State → ℕ → State
 recordGiven More x n = advanced x n
 recordGiven Done x n = Free
-recordGiven (Failed s) x n = Free
+recordGiven (Failed status) x n = Free
 recordGiven Poisoned x n = Free
 recordGiven (Unread r) x n = x
 recordGiven (Refused k) x n = x
 
 -- ---- open
 
+-- the rows before 12, which is the writer's
+abbrev pub rowsBefore12 : Table → ReadRequest → ℕ → ℕ → List Row
+rowsBefore12 t q tag room =
+    row 11 (not (validTable t)) ∷ rulesBefore12 (t .origin) (stateAt t tag) (sharesOpen t q) q tag room
+
 -- the rows before 24, with 11 first; x is the tag's record
-abbrev pub earlySeen : Bool → Origin → State → ReadRequest → ℕ → ℕ → List Row
-earlySeen valid o x q tag room =
+abbrev pub rowsBefore24 : Bool → Origin → State → ReadRequest → ℕ → ℕ → List Row
+rowsBefore24 valid o x q tag room =
     row 11 (not valid)
     ∷ (requestRows q
     ++ (row 20 (leb (tagLimit (o .settings)) tag)
@@ -100,7 +107,9 @@ completionOutcome o x bytes room = numberedOutcome (numberIn o bytes) (pieceOutc
 unfoldable pub takeOutcome : Bool → Origin → State → List ℕ → ℕ → Outcome
 takeOutcome valid o x bytes room =
     pick valid
-    (pick (hasCompletion bytes) (completionOutcome o x bytes room) (kept (otherAnswer (first (readRows (o .settings) bytes)))))
+    (pick (hasCompletion bytes)
+    (completionOutcome o x bytes room)
+    (kept (otherAnswer (first (readRows (o .settings) bytes)))))
     (kept (Refused 11))
 
 -- of a table, with the record of a tag
@@ -116,7 +125,10 @@ numberedLaid zero laid store = laid
 numberedLaid (suc n) laid store = store
 
 unfoldable pub completionLaid : Origin → State → List ℕ → List ℕ → List ℕ
-completionLaid o x bytes store = numberedLaid (numberIn o bytes) (pieceLaid o x (pieceAt bytes) (take (4 * pieceAt bytes .length) (drop 12 bytes)) store) store
+completionLaid o x bytes store =
+    numberedLaid (numberIn o bytes)
+    (pieceLaid o x (pieceAt bytes) (take (4 * pieceAt bytes .length) (drop 12 bytes)) store)
+    store
 
 unfoldable pub takeLaid : Bool → Origin → State → List ℕ → List ℕ → List ℕ
 takeLaid valid o x bytes store = pick valid (pick (hasCompletion bytes) (completionLaid o x bytes store) store) store

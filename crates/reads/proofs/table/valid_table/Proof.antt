@@ -1,7 +1,7 @@
 use Rattle.reads.proofs.TableLaws.{seen-laws}
 use borrow.Author.Needs.{needs}
-use Rattle.reads.proofs.table.is_valid.Statement.{statement}
-use Rattle.reads.proofs.table.is_valid.Tie as tie
+use Rattle.reads.proofs.table.valid_table.Statement.{statement}
+use Rattle.reads.proofs.table.valid_table.Tie as tie
 
 settings-listed-requires : tie.Need-settings-listed-requires
 settings-listed-requires c κs = search needs
@@ -21,8 +21,8 @@ all-valid-requires c κs = search needs
 returns-2 : tie.Need-returns-2
 returns-2 c = search (seen-laws, needs)
 
-pub is-valid-spec : {M : Type 1} → statement M
-is-valid-spec =
+pub valid-table-spec : {M : Type 1} → statement M
+valid-table-spec =
     tie.close
     (tie.spec
     settings-listed-requires
