@@ -15,12 +15,12 @@ use tlp::settings::Settings;
 ghost use mathlib.Core.Path.{_≡_};
 ghost use lib.ListN.{length};
 ghost use Rattle.reads.specs.Answers.{openNumber, withdrawNumber};
-ghost use Rattle.reads.specs.Tables.{tableOf};
 ghost use Rattle.reads.specs.OpenCall.{openCall, openOut};
 ghost use Rattle.reads.specs.TakeCall.{takeCall, takeStore};
 ghost use Rattle.reads.specs.OtherCalls.{withdrawCall};
-ghost use Rattle.bench_lent.specs.Lent.{originIn, requestIn, doneNumber};
+ghost use Rattle.bench_lent.specs.Lent.{originIn, tableIn, requestIn, doneNumber};
 
+// What a table is made from.
 fn origin_in(from: &[u32; 4]) -> Origin
     ensures { λ o. ⌜ o ≡ originIn (now (from .entry)) ⌝ }
 {
@@ -34,6 +34,7 @@ fn origin_in(from: &[u32; 4]) -> Origin
     }
 }
 
+// The number of open's answer; 0 where it is accepted.
 fn open_number(a: OpenAnswer) -> u32
     ensures { λ n. ⌜ n ≡ openNumber a ⌝ }
 {
@@ -57,6 +58,7 @@ fn done_number(a: TakeAnswer) -> u32
     }
 }
 
+// The number of withdraw's answer; 0 where it is accepted.
 fn withdraw_number(a: WithdrawAnswer) -> u32
     ensures { λ n. ⌜ n ≡ withdrawNumber a ⌝ }
 {
@@ -66,6 +68,7 @@ fn withdraw_number(a: WithdrawAnswer) -> u32
     }
 }
 
+// Opens a read, for a host that times it.
 #[no_mangle]
 pub extern "C" fn bench_open(
     from: &[u32; 4],
@@ -76,9 +79,16 @@ pub extern "C" fn bench_open(
     store: &[u8],
     out: &mut [u8],
 ) -> u32
-    ensures { λ n. ⌜ n ≡ openNumber (openCall (tableOf (originIn (now (from .entry))) (now (opened .entry)) (now (words .entry))) (requestIn (now (request .entry))) tag (length (now (store .entry))) (length (now (out .entry))) .answer) ⌝ }
-    ensures { λ _. ⌜ tableOf (originIn (now (from .entry))) (now (opened .exit)) (now (words .exit)) ≡ openCall (tableOf (originIn (now (from .entry))) (now (opened .entry)) (now (words .entry))) (requestIn (now (request .entry))) tag (length (now (store .entry))) (length (now (out .entry))) .table ⌝ }
-    ensures { λ _. ⌜ now (out .exit) ≡ openOut (tableOf (originIn (now (from .entry))) (now (opened .entry)) (now (words .entry))) (requestIn (now (request .entry))) tag (length (now (store .entry))) (now (out .entry)) ⌝ }
+    ensures { λ n.
+        ⌜ n ≡ openNumber (openCall (tableIn (now (from .entry)) (now (opened .entry)) (now (words .entry)))
+        (requestIn (now (request .entry))) tag (length (now (store .entry))) (length (now (out .entry))) .answer) ⌝ }
+    ensures { λ _.
+        ⌜ tableIn (now (from .entry)) (now (opened .exit)) (now (words .exit))
+        ≡ openCall (tableIn (now (from .entry)) (now (opened .entry)) (now (words .entry)))
+        (requestIn (now (request .entry))) tag (length (now (store .entry))) (length (now (out .entry))) .table ⌝ }
+    ensures { λ _.
+        ⌜ now (out .exit) ≡ openOut (tableIn (now (from .entry)) (now (opened .entry)) (now (words .entry)))
+        (requestIn (now (request .entry))) tag (length (now (store .entry))) (now (out .entry)) ⌝ }
 {
     let r = read_of(request[0], request[1], request[2], request[3]);
     let q = r.request;
@@ -87,6 +97,7 @@ pub extern "C" fn bench_open(
     open_number(answer)
 }
 
+// Takes a packet, likewise.
 #[no_mangle]
 pub extern "C" fn bench_take(
     from: &[u32; 4],
@@ -95,15 +106,23 @@ pub extern "C" fn bench_take(
     bytes: &[u8],
     store: &mut [u8],
 ) -> u32
-    ensures { λ n. ⌜ n ≡ doneNumber (takeCall (tableOf (originIn (now (from .entry))) (now (opened .entry)) (now (words .entry))) (now (bytes .entry)) (length (now (store .entry))) .answer) ⌝ }
-    ensures { λ _. ⌜ tableOf (originIn (now (from .entry))) (now (opened .exit)) (now (words .exit)) ≡ takeCall (tableOf (originIn (now (from .entry))) (now (opened .entry)) (now (words .entry))) (now (bytes .entry)) (length (now (store .entry))) .table ⌝ }
-    ensures { λ _. ⌜ now (store .exit) ≡ takeStore (tableOf (originIn (now (from .entry))) (now (opened .entry)) (now (words .entry))) (now (bytes .entry)) (now (store .entry)) ⌝ }
+    ensures { λ n.
+        ⌜ n ≡ doneNumber (takeCall (tableIn (now (from .entry)) (now (opened .entry)) (now (words .entry)))
+        (now (bytes .entry)) (length (now (store .entry))) .answer) ⌝ }
+    ensures { λ _.
+        ⌜ tableIn (now (from .entry)) (now (opened .exit)) (now (words .exit))
+        ≡ takeCall (tableIn (now (from .entry)) (now (opened .entry)) (now (words .entry)))
+        (now (bytes .entry)) (length (now (store .entry))) .table ⌝ }
+    ensures { λ _.
+        ⌜ now (store .exit) ≡ takeStore (tableIn (now (from .entry)) (now (opened .entry)) (now (words .entry)))
+        (now (bytes .entry)) (now (store .entry)) ⌝ }
 {
     let o = origin_in(from);
     let answer = take_lent(o, opened, words, bytes, store);
     done_number(answer)
 }
 
+// Withdraws a read, likewise.
 #[no_mangle]
 pub extern "C" fn bench_withdraw(
     from: &[u32; 4],
@@ -111,8 +130,12 @@ pub extern "C" fn bench_withdraw(
     words: &mut Words,
     tag: u32,
 ) -> u32
-    ensures { λ n. ⌜ n ≡ withdrawNumber (withdrawCall (tableOf (originIn (now (from .entry))) (now (opened .entry)) (now (words .entry))) tag .answer) ⌝ }
-    ensures { λ _. ⌜ tableOf (originIn (now (from .entry))) (now (opened .exit)) (now (words .exit)) ≡ withdrawCall (tableOf (originIn (now (from .entry))) (now (opened .entry)) (now (words .entry))) tag .table ⌝ }
+    ensures { λ n.
+        ⌜ n ≡ withdrawNumber (withdrawCall (tableIn (now (from .entry)) (now (opened .entry)) (now (words .entry))) tag
+        .answer) ⌝ }
+    ensures { λ _.
+        ⌜ tableIn (now (from .entry)) (now (opened .exit)) (now (words .exit))
+        ≡ withdrawCall (tableIn (now (from .entry)) (now (opened .entry)) (now (words .entry))) tag .table ⌝ }
 {
     let o = origin_in(from);
     let answer = withdraw_lent(o, opened, words, tag);

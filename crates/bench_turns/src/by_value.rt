@@ -5,6 +5,7 @@ use crate::code::withdraw_turn_code;
 use reads::table::Table;
 use reads_rules::request::ReadRequest;
 
+// The number of the first call that is refused, which code keeps; i counts the turns made, u is the table.
 pub(crate) fn run_turns(
     t: Table,
     takes: bool,

@@ -3,6 +3,7 @@ use reads::answer::OpenAnswer;
 use reads::answer::WithdrawAnswer;
 use reads_answers::TakeAnswer;
 
+// The number kept so far, or else n.
 fn first_of(code: u32, n: u32) -> u32 {
     if code != 0 {
         return code;
@@ -10,6 +11,7 @@ fn first_of(code: u32, n: u32) -> u32 {
     n
 }
 
+// The number of open's answer.
 fn open_code(a: OpenAnswer) -> u32 {
     match a {
         OpenAnswer::Opened(_) => 0,
@@ -29,6 +31,7 @@ fn done_code(a: TakeAnswer) -> u32 {
     }
 }
 
+// The number of withdraw's answer.
 fn withdraw_code(a: WithdrawAnswer) -> u32 {
     match a {
         WithdrawAnswer::Withdrawn => 0,
@@ -36,10 +39,12 @@ fn withdraw_code(a: WithdrawAnswer) -> u32 {
     }
 }
 
+// After a turn that takes its read.
 pub(crate) fn take_turn_code(code: u32, a: OpenAnswer, b: TakeAnswer) -> u32 {
     first_of(first_of(code, open_code(a)), done_code(b))
 }
 
+// After a turn that withdraws its read.
 pub(crate) fn withdraw_turn_code(code: u32, a: OpenAnswer, b: WithdrawAnswer) -> u32 {
     first_of(first_of(code, open_code(a)), withdraw_code(b))
 }

@@ -7,6 +7,7 @@ use reads_in_place::take;
 use reads_in_place::withdraw;
 use reads_rules::request::ReadRequest;
 
+// The number of the first call that is refused, which code keeps; i counts the turns made.
 pub(crate) fn run_turns(
     t: Table,
     takes: bool,

@@ -7,6 +7,7 @@ use reads::table::withdraw_lent;
 use reads::take::take_lent;
 use reads_rules::request::ReadRequest;
 
+// The number of the first call that is refused, which code keeps; i counts the turns made.
 pub(crate) fn run_turns(
     t: Table,
     takes: bool,

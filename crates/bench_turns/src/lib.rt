@@ -17,21 +17,32 @@ use crate::work::Work;
 use crate::work::way_in;
 use crate::work::work_in;
 use reads::table::Table;
+use reads_rules::window::STORE_LIMIT;
 use text::fields::Field;
 use text::fields::line_start;
 use text::words::part;
 ghost use Prim.Native.Nat.{_≤_};
 
+// The longest store.
+const STORE: usize = STORE_LIMIT as usize;
+
+// The window of the turns: the largest read.
+const WINDOW: usize = 4096;
+
+// The completion that takes it whole: header and payload.
+pub(crate) const PACKET: usize = 12 + WINDOW;
+
+// A byte as a number of 64 bits.
 fn wide(x: u8) -> u64 {
     x as u64
 }
 
-// The sum of a store's first 4,096 bytes, where the turns' window lies. It is far below 2^64; a sum that may wrap
-// asks for no bound.
-fn window_sum(store: &[u8; 65536]) -> u64 {
+// The sum of the bytes of a store where the turns' window lies, i of them so far. It is far below 2^64; a sum that may
+// wrap asks for no bound.
+fn window_sum(store: &[u8; STORE]) -> u64 {
     let mut sum: u64 = 0;
     let mut i: usize = 0;
-    while i < 4096 {
+    while i < WINDOW {
         sum = std::num::wrapping_add_u64(sum, wide(store[i]));
         i += 1;
     }
@@ -45,11 +56,11 @@ fn turns_code(
     place: bool,
     w: Work,
     t: Table,
-    bytes: &[u8; 4108],
-    store: &mut [u8; 65536],
+    bytes: &[u8; PACKET],
+    store: &mut [u8; STORE],
     out: &mut [u8; 16],
 ) -> u32 {
-    let room = [0u8; 65536];
+    let room = [0u8; STORE];
     let q = read_of(w.size);
     let packet = part(bytes, 0, 12 + w.size as usize);
     if lent {
@@ -61,11 +72,12 @@ fn turns_code(
     by_value::run_turns(t, w.takes, w.turns, q, packet, &room, store, out, w.tag)
 }
 
+// Does a line's work and prints what came of it.
 fn run_work(lent: bool, place: bool, w: Work)
     requires { ⌜ (w .others ≤ 31) × (w .size ≤ 4096) × (w .tag ≤ 31) ⌝ }
 {
-    let mut bytes = [0u8; 4108];
-    let mut store = [0u8; 65536];
+    let mut bytes = [0u8; PACKET];
+    let mut store = [0u8; STORE];
     let mut out = [0u8; 16];
     put_packet(w.size, w.tag, &mut bytes);
     let t = first_table(w.others, w.tag);
@@ -98,9 +110,8 @@ fn run_line(named: bool, place: bool, line: &[u8]) {
     run_rest(false, place, line, line_start());
 }
 
-fn run_lines(named: bool, place: bool) -> usize
-    ensures { λ n. ⌜ n ≤ 65536 ⌝ }
-{
+// Runs every line of the input, of which at is the next one's place and n the length.
+fn run_lines(named: bool, place: bool) {
     let mut input = io::large_buffer();
     let n = io::read_full(0, &mut input);
     let mut at: usize = 0;
@@ -109,19 +120,14 @@ fn run_lines(named: bool, place: bool) -> usize
         run_line(named, place, &input[at..end]);
         at = end + 1;
     }
-    n
 }
 
-// Runs the lines in place or by value, and answers how many bytes of input there were.
-pub fn run(place: bool) -> usize
-    ensures { λ n. ⌜ n ≤ 65536 ⌝ }
-{
-    run_lines(false, place)
+// For a program that turns one way: runs the lines of standard input, in place or by value.
+pub fn run(place: bool) {
+    run_lines(false, place);
 }
 
-// The same, each line the way that it names.
-pub fn run_named() -> usize
-    ensures { λ n. ⌜ n ≤ 65536 ⌝ }
-{
-    run_lines(true, false)
+// For a program that turns every way: the same, each line the way that it names.
+pub fn run_named() {
+    run_lines(true, false);
 }

@@ -1,4 +1,5 @@
 // The completion that takes the read of a turn whole.
+use crate::PACKET;
 ghost use Prim.Native.Nat.{_≤_};
 
 // Byte k of its payload.
@@ -6,8 +7,9 @@ fn payload_byte(k: u32) -> u8 {
     ((k % 256 * 7 + 1) % 256) as u8
 }
 
-// Requester ID 0100, completer ID 0200, Lower Address 0; Length and Byte Count are the size's.
-pub(crate) fn put_packet(size: u32, tag: u32, out: &mut [u8; 4108])
+// Lays it over out: requester ID 0100, completer ID 0200, Lower Address 0; Length and Byte Count are the size's;
+// k counts the bytes of the payload.
+pub(crate) fn put_packet(size: u32, tag: u32, out: &mut [u8; PACKET])
     requires { ⌜ size ≤ 4096 ⌝ }
 {
     let dw = size / 4;

@@ -33,7 +33,8 @@ pub(crate) fn read_of(size: u32) -> ReadRequest {
 }
 
 // A table with other reads, of 64 bytes, open on the tags after the turns', round the 32 there are; their windows lie
-// behind the turns'. The records are put in by hand, so that the table's calls have no caller beside the turns.
+// behind the turns'; i counts them. The records are put in by hand, so that the table's calls have no caller beside
+// the turns.
 pub(crate) fn first_table(others: u32, tag: u32) -> Table
     requires { ⌜ (others ≤ 31) × (tag ≤ 31) ⌝ }
 {

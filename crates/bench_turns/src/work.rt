@@ -17,7 +17,8 @@ pub(crate) struct Work {
     pub turns: u32,
 }
 
-fn number(line: &[u8], before: Field, key: &[u8], most: u64) -> Field
+// A decimal after its key, of at most the most given.
+fn decimal_up_to(line: &[u8], before: Field, key: &[u8], most: u64) -> Field
     ensures { λ r. ⌜ r .value ≤ most ⌝ }
 {
     decimal_after(line, before, key, most)
@@ -29,6 +30,7 @@ pub(crate) struct Choice {
     pub field: Field,
 }
 
+// The field after whichever of two words stands next.
 fn one_of_two(line: &[u8], before: Field, one: &[u8], two: &[u8]) -> Choice {
     let a = key_after(line, before, one);
     if a.good {
@@ -50,6 +52,7 @@ pub(crate) struct Way {
     pub field: Field,
 }
 
+// The way that a line's first word names.
 pub(crate) fn way_in(line: &[u8]) -> Way {
     let a = key_after(line, line_start(), b"lent ");
     if a.good {
@@ -68,8 +71,9 @@ pub(crate) fn way_in(line: &[u8]) -> Way {
     }
 }
 
-// A size is a number of doublewords, so that a read has it; the line ends with its last number.
-fn is_whole(line: &[u8], last: Field, size: u64) -> bool {
+// Whether a line is good: it ends with its last number, and the size is one of whole doublewords, so that a read has
+// it.
+fn is_good(line: &[u8], last: Field, size: u64) -> bool {
     if !last.good {
         return false;
     }
@@ -82,16 +86,17 @@ fn is_whole(line: &[u8], last: Field, size: u64) -> bool {
     size % 4 == 0
 }
 
+// The work of a line, from the field before it on.
 pub(crate) fn work_in(line: &[u8], before: Field) -> Work
     ensures { λ w. ⌜ (w .others ≤ 31) × (w .size ≤ 4096) × (w .tag ≤ 31) ⌝ }
 {
     let takes = one_of_two(line, before, b"take ", b"withdraw ");
-    let others = number(line, takes.field, b"others=", 31);
-    let size = number(line, others, b" size=", 4096);
-    let tag = number(line, size, b" tag=", 31);
-    let turns = number(line, tag, b" turns=", 4294967295);
+    let others = decimal_up_to(line, takes.field, b"others=", 31);
+    let size = decimal_up_to(line, others, b" size=", 4096);
+    let tag = decimal_up_to(line, size, b" tag=", 31);
+    let turns = decimal_up_to(line, tag, b" turns=", 4294967295);
     Work {
-        good: is_whole(line, turns, size.value),
+        good: is_good(line, turns, size.value),
         takes: takes.first,
         others: others.value as u32,
         size: size.value as u32,

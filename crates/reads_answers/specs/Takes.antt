@@ -1,6 +1,6 @@
--- Document 01, take: "Refused: any reader number; 29 not Cpl or CplD" up to "otherwise More": what it answers to a
--- packet that was read, from the record of its tag. A reader must believe `ownRows` (29 to 34), `outcome` and
--- `packetAnswer`; `pieceAnswer` is the same of a packet that is known to be a completion.
+-- Document 01, take: from "29 not Cpl or CplD" to "otherwise More", what it answers to a packet that was read, from
+-- the record of its tag. A reader must believe `ownRows` (29 to 34), `outcome` and `packetAnswer`; `pieceAnswer` is the
+-- same of a packet that is known to be a completion.
 use Prim.Native.Nat.{ℕ, zero, suc}
 use mathlib.Core.Bool.{not, _||_, _&&_}
 use mathlib.Core.List.{List, [], _∷_}

@@ -189,12 +189,12 @@ module _ {M : Type 1} {𝓤 : URA M} {H : Heap 𝓤} {A : Atoms 𝓤} {K : Type 
         split t $ split t $ move t (2 ∷ []) $ pick t (λ ws. split t $ move t (1 ∷ 0 ∷ 3 ∷ 2 ∷ []) $ go v r ws)))
 
 -- ---- the core's results: structs of a table and an answer, all alike but for name and answer
-abbrev both : (B : Enums.Declared) → Table → B .D → Denots (rows (T.the-field ∷ Enums.field B ∷ []))
-both B h x = (T.the-type .to h, (B .to x, tt))
+abbrev table-and-answer : (B : Enums.Declared) → Table → B .D → Denots (rows (T.the-field ∷ Enums.field B ∷ []))
+table-and-answer B h x = (T.the-type .to h, (B .to x, tt))
 
-module _ (name : Sym) (B : Enums.Declared) (L : LL.FLaws (Enums.field B)) (D : Type 0) (table : D → Table) (answer : D → B .D) (one : (x y : D) → both B (table x) (answer x) ≡ both B (table y) (answer y) → x ≡ y) where
+module _ (name : Sym) (B : Enums.Declared) (L : LL.FLaws (Enums.field B)) (D : Type 0) (table : D → Table) (answer : D → B .D) (one : (x y : D) → table-and-answer B (table x) (answer x) ≡ table-and-answer B (table y) (answer y) → x ≡ y) where
   abbrev pair : Structs.Declared
-  pair = record { name = name; args = []; parts = T.the-field ∷ Enums.field B ∷ []; D = D; to = λ d. both B (table d) (answer d); to-one = one }
+  pair = record { name = name; args = []; parts = T.the-field ∷ Enums.field B ∷ []; D = D; to = λ d. table-and-answer B (table d) (answer d); to-one = one }
 
   abbrev laws : LL.Laws pair
   laws = (T′.the-field-laws, (L, tt))

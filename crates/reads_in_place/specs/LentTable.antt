@@ -1,6 +1,7 @@
--- What each call answers, and leaves in the table and in what else is lent to it to change: what the core makes of
--- the table as it was, refused calls included. The contracts state these, and `reads_in_place_demands` builds its
--- runs of them.
+-- Document 01: "the bench shell lends one table, changed in place by thin calls". What each call answers, and leaves
+-- in the table and in what else is lent to it to change: what the core makes of the table as it was, refused calls
+-- included. A reader must believe all four: the contracts state these, and `reads_in_place_demands` builds its runs
+-- of them.
 use Prim.Native.Nat.{ℕ}
 use mathlib.Core.Path.{_≡_}
 use mathlib.Core.List.{List}

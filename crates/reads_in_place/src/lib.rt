@@ -7,25 +7,29 @@ use reads_answers::TakeAnswer;
 use reads_rules::request::ReadRequest;
 ghost use Rattle.reads_in_place.specs.LentTable.{OpenLeaves, TakeLeaves, WithdrawLeaves, OwedLeaves};
 
-// Table and answer are those of openCall, the output is openOut's.
+// Opens a read in the table: table and answer are those of openCall, the output is openOut's.
 pub fn open(t: &mut Table, q: ReadRequest, tag: u32, store: &[u8], out: &mut [u8]) -> OpenAnswer
-    ensures { λ r. ⌜ OpenLeaves (now (t .entry)) q tag (now (store .entry)) (now (out .entry)) r (now (t .exit)) (now (out .exit)) ⌝ }
+    ensures { λ r.
+        ⌜ OpenLeaves (now (t .entry)) q tag (now (store .entry)) (now (out .entry)) r
+        (now (t .exit)) (now (out .exit)) ⌝ }
 {
     let n = Table::open(*t, q, tag, store, out);
     *t = n.table;
     n.answer
 }
 
-// Table and answer are those of takeCall, the store is takeStore's.
+// Takes a packet: table and answer are those of takeCall, the store is takeStore's.
 pub fn take(t: &mut Table, bytes: &[u8], store: &mut [u8]) -> TakeAnswer
-    ensures { λ r. ⌜ TakeLeaves (now (t .entry)) (now (bytes .entry)) (now (store .entry)) r (now (t .exit)) (now (store .exit)) ⌝ }
+    ensures { λ r.
+        ⌜ TakeLeaves (now (t .entry)) (now (bytes .entry)) (now (store .entry)) r
+        (now (t .exit)) (now (store .exit)) ⌝ }
 {
     let n = Table::take(*t, bytes, store);
     *t = n.table;
     n.answer
 }
 
-// Table and answer are those of withdrawCall.
+// Withdraws a read: table and answer are those of withdrawCall.
 pub fn withdraw(t: &mut Table, tag: u32) -> WithdrawAnswer
     ensures { λ r. ⌜ WithdrawLeaves (now (t .entry)) tag r (now (t .exit)) ⌝ }
 {
@@ -34,7 +38,7 @@ pub fn withdraw(t: &mut Table, tag: u32) -> WithdrawAnswer
     n.answer
 }
 
-// The answer is owedCall's.
+// The doublewords still owed: the answer is owedCall's.
 pub fn owed(t: &Table) -> OwedAnswer
     ensures { λ r. ⌜ OwedLeaves (now (t .entry)) r ⌝ }
 {

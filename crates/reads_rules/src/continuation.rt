@@ -10,7 +10,8 @@ ghost use Prim.Native.Nat.{_+_, _*_, _%_, _^_, _<_, _-_};
 ghost use lib.Dec.{eqb};
 ghost use Rattle.bits.specs.Choice.{pick};
 ghost use Rattle.byte_enables.specs.Enables.{off, trail};
-ghost use Rattle.reads_rules.specs.Continuations.{byteCountAt, lowerAddressAt, cutAllowed, legal, succeeds, statusBad, differs, reported};
+ghost use Rattle.reads_rules.specs.Continuations.{byteCountAt, lowerAddressAt, cutAllowed, legal, succeeds};
+ghost use Rattle.reads_rules.specs.Continuations.{statusBad, differs, reported};
 
 // The doublewords of a request from doubleword p on.
 fn rest_of(a: Access, p: u32) -> u32

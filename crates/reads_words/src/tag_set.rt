@@ -4,7 +4,8 @@ use bits::count::lowest_bit;
 ghost use mathlib.Core.Path.{_≡_};
 ghost use Prim.Native.Nat.{_<_};
 ghost use Rattle.bits.specs.Field.{bit, low};
-ghost use Rattle.reads_words.specs.TagSets.{withBit, withoutBit, withoutLowest, contains, withTag, withoutTag, wordBelow};
+ghost use Rattle.reads_words.specs.TagSets.{withBit, withoutBit, withoutLowest, contains, withTag, withoutTag};
+ghost use Rattle.reads_words.specs.TagSets.{wordBelow};
 
 pub type TagSet = [u64; CAPACITY / 64];
 

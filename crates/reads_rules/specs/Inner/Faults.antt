@@ -10,7 +10,9 @@ use Rattle.reads_rules.specs.declared.request.ReadRequest.{ReadRequest}
 
 -- a number other than address and length exceeds its field
 abbrev pub fieldsOver : ReadRequest → Bool
-fieldsOver q = leb 8 (q .«traffic_class») || (leb 8 (q .attributes) || (leb 16 (q .access .first) || leb 16 (q .access .last)))
+fieldsOver q =
+    leb 8 (q .«traffic_class»)
+    || (leb 8 (q .attributes) || (leb 16 (q .access .first) || leb 16 (q .access .last)))
 
 -- 8, 22, 23 and 7, with the longest store
 abbrev pub reachBad : Settings → ReadRequest → Bool

@@ -355,11 +355,11 @@ module _ {M : Type 1} (𝓤 : URA M) (H : Heap 𝓤) (A : Atoms 𝓤) (at-mem : 
       onward : (s₀ s : Turn) → s .made ≡ s₀ .made → Holds (ltb (s .made) n) → (y : Bool) → Sq W (Held s (free openTy l₁₃) (has tyBool l₁₆ (vbool y))) (prop (Wp 𝓤 H C Λ En more (Turned s₀)))
       unfolding afterTurn
       onward s₀ s e less y =
-          exec ! C Λ En more (anyQ (Turned s₀)) $ assigns-last ! (bin ! (load ! (from ! (stop !)) (look ! 24 refl)) (lit ! tt) (record { fits = made-fits after })) (from ! (stop !)) (stores ! 24 refl (tt, record { fits = made-fits after })) $ forget ! 27 refl $
-          again ! Nearer At s₀ after (subst (λ (m : ℕ). n - (s .made + 1) < n - m) e (add-one-dec n (s .made) (ltb→lt (s .made) n less)))
+          exec ! C Λ En more (anyQ (Turned s₀)) $ assigns-last ! (bin ! (load ! (from ! (stop !)) (look ! 24 refl)) (lit ! tt) (record { fits = made-fits next-turn })) (from ! (stop !)) (stores ! 24 refl (tt, record { fits = made-fits next-turn })) $ forget ! 27 refl $
+          again ! Nearer At s₀ next-turn (subst (λ (m : ℕ). n - (s .made + 1) < n - m) e (add-one-dec n (s .made) (ltb→lt (s .made) n less)))
         where
-          after : Turn
-          after = record { made = s .made + 1; within = add-one-le (ltb→lt (s .made) n less); code = s .code; code-fits = s .code-fits; table = s .table; kept = s .kept; kept-all = s .kept-all; sent = s .sent; sent-all = s .sent-all }
+          next-turn : Turn
+          next-turn = record { made = s .made + 1; within = add-one-le (ltb→lt (s .made) n less); code = s .code; code-fits = s .code-fits; table = s .table; kept = s .kept; kept-all = s .kept-all; sent = s .sent; sent-all = s .sent-all }
 
       -- the loop is left: what was lent is whole again, and the code is returned
       left : (s : Turn) (y : Bool) → Sq W (Held s (free openTy l₁₃) (has tyBool l₁₆ (vbool y))) (prop (Wp 𝓤 H C Λ En ending (atReturn 𝓤 H En Finally)))
