@@ -2,7 +2,7 @@
 use mathlib.Core.Path.{_≡_, refl, sym, ap, _∙_}
 use mathlib.Core.Bool.{Bool, true, false}
 use mathlib.Core.Logic.{_⊎_, inl, inr, ⊎-elim}
-use Prim.Native.Nat.{ℕ, zero, suc, _+_, _-_, _*_, _/_, _%_, _^_, _≤_, _<_, zero-le}
+use Prim.Native.Nat.{ℕ, zero, suc, _+_, _-_, _*_, _/_, _%_, _^_, _≤_, _<_}
 use native.Mathlib.Nat.{eq-zero-or-pos, lt-of-lt-of-le, mod-eq-of-lt, mod-lt, mod-one, div-one, pow-suc, zero-add, zero-mul, le-suc, lt-div-mul-add, div-mul-le-self, lt-of-not-le, not-le-of-lt, lt-of-le-of-lt}
 use native.Mathlib.Numerals.{add-one, one-add}
 use native.Mathlib.Decide.{le-ind}
@@ -95,11 +95,6 @@ ones-low (suc w) x =
 
 pub ones-set : (w x : ℕ) → x < 2 ^ w → ones x ≡ setBits w x
 ones-set w x h = ap ones (sym (mod-eq-of-lt h)) ∙ ones-low w x
-
-pub set-le : (w x : ℕ) → setBits w x ≤ w
-unfolding setBits
-set-le zero x = zero-le
-set-le (suc w) x = omega (arith, set-le w x)
 
 -- of a number that is not 0, one bit at least stands between the clear bits below and those above
 trailing-power : (w x : ℕ) → 0 < x → x < 2 ^ w → 2 ^ trailingZeros w x ≤ x

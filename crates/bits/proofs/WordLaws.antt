@@ -10,21 +10,21 @@ use lib.Pow.{pow-add}
 use lib.ListN.{length, getD, take, drop}
 use lib.Seq.{getD-append-add, drop-cons}
 use borrow.Author.Tests.{le-leb, lt-leb}
-use Rattle.bits.specs.Word.{word, whole, bytes}
+use Rattle.bits.specs.Word.{word, wholeWord, bytes}
 
 power : (k : ℕ) → 0 < 256 ^ k
 power k = one-le-pow k 256 (zero-lt-suc 255)
 
 -- ---- reading
 
-pub word-split : (j k : ℕ) (s : List ℕ) (i : ℕ) → word (j + k) s i ≡ word j s i * 256 ^ k + word k s (i + j)
-word-split zero k s i = simp (zero-add, add-zero, zero-mul)
-word-split (suc j) k s i =
-    simp (suc-add, pow-add, word-split j k s (i + 1), add-mul, add-assoc, mul-assoc, one-add)
+pub word-split : (j k : ℕ) (src : List ℕ) (i : ℕ) → word (j + k) src i ≡ word j src i * 256 ^ k + word k src (i + j)
+word-split zero k src i = simp (zero-add, add-zero, zero-mul)
+word-split (suc j) k src i =
+    simp (suc-add, pow-add, word-split j k src (i + 1), add-mul, add-assoc, mul-assoc, one-add)
 
-pub word-shift : (pre s : List ℕ) (k i : ℕ) → word k (pre ++ s) (length pre + i) ≡ word k s i
-word-shift pre s zero i = refl
-word-shift pre s (suc k) i = rw (getD-append-add pre s i 0, add-assoc, word-shift pre s k (i + 1))
+pub word-shift : (pre src : List ℕ) (k i : ℕ) → word k (pre ++ src) (length pre + i) ≡ word k src i
+word-shift pre src zero i = refl
+word-shift pre src (suc k) i = rw (getD-append-add pre src i 0, add-assoc, word-shift pre src k (i + 1))
 
 -- ---- writing
 
@@ -70,32 +70,32 @@ word-bytes k x rest h = word-low k x rest ∙ mod-eq-of-lt h
 
 -- every element is a byte
 abbrev pub AllBytes : List ℕ → Type 0
-AllBytes s = (i : ℕ) → i < length s → getD s i 0 < 256
+AllBytes src = (i : ℕ) → i < length src → getD src i 0 < 256
 
-getD-small : (s : List ℕ) → AllBytes s → (i : ℕ) → getD s i 0 < 256
+getD-small : (src : List ℕ) → AllBytes src → (i : ℕ) → getD src i 0 < 256
 getD-small [] small i = zero-lt-suc 255
-getD-small (x ∷ s) small zero = small zero (zero-lt-suc _)
-getD-small (x ∷ s) small (suc i) = getD-small s (λ k h. small (suc k) (suc-le-suc h)) i
+getD-small (x ∷ src) small zero = small zero (zero-lt-suc _)
+getD-small (x ∷ src) small (suc i) = getD-small src (λ k h. small (suc k) (suc-le-suc h)) i
 
-pub word-lt : (k : ℕ) (s : List ℕ) (i : ℕ) → AllBytes s → word k s i < 256 ^ k
-word-lt zero s i small = zero-lt-suc 0
-word-lt (suc k) s i small = rw (pow-suc 256 k, mul-comm (256 ^ k) 256) (digits-lt (getD-small s small i) (word-lt k s (i + 1) small))
+pub word-lt : (k : ℕ) (src : List ℕ) (i : ℕ) → AllBytes src → word k src i < 256 ^ k
+word-lt zero src i small = zero-lt-suc 0
+word-lt (suc k) src i small = rw (pow-suc 256 k, mul-comm (256 ^ k) 256) (digits-lt (getD-small src small i) (word-lt k src (i + 1) small))
 
-pub bytes-word-at : (k : ℕ) (s : List ℕ) (i : ℕ) → i + k ≤ length s → AllBytes s → bytes k (word k s i) ≡ take k (drop i s)
-bytes-word-at zero s i h small = refl
-bytes-word-at (suc k) s i h small =
-    let b : getD s i 0 < 256 = getD-small s small i in
-    let t : take (suc k) (drop i s) ≡ getD s i 0 ∷ take k (drop (i + 1) s) = rw (drop-cons s i 0 (omega arith), add-one i) in
-    let u : bytes k (getD s i 0 * 256 ^ k + word k s (i + 1)) ≡ take k (drop (i + 1) s) = rw add-zero at (bytes-above k 0 (getD s i 0) (word k s (i + 1))) ∙ bytes-word-at k s (i + 1) (omega arith) small in
-    rw (t, digits-div (getD s i 0) (word-lt k s (i + 1) small), mod-eq-of-lt b, u)
+pub bytes-word-at : (k : ℕ) (src : List ℕ) (i : ℕ) → i + k ≤ length src → AllBytes src → bytes k (word k src i) ≡ take k (drop i src)
+bytes-word-at zero src i h small = refl
+bytes-word-at (suc k) src i h small =
+    let b : getD src i 0 < 256 = getD-small src small i in
+    let t : take (suc k) (drop i src) ≡ getD src i 0 ∷ take k (drop (i + 1) src) = rw (drop-cons src i 0 (omega arith), add-one i) in
+    let u : bytes k (getD src i 0 * 256 ^ k + word k src (i + 1)) ≡ take k (drop (i + 1) src) = rw add-zero at (bytes-above k 0 (getD src i 0) (word k src (i + 1))) ∙ bytes-word-at k src (i + 1) (omega arith) small in
+    rw (t, digits-div (getD src i 0) (word-lt k src (i + 1) small), mod-eq-of-lt b, u)
 
-pub bytes-word : (k : ℕ) (s : List ℕ) → k ≤ length s → AllBytes s → bytes k (word k s 0) ≡ take k s
-bytes-word k s h small = bytes-word-at k s 0 (omega arith) small
+pub bytes-word : (k : ℕ) (src : List ℕ) → k ≤ length src → AllBytes src → bytes k (word k src 0) ≡ take k src
+bytes-word k src h small = bytes-word-at k src 0 (omega arith) small
 
 -- a number all of whose bytes are there, or not
-module _ (k : ℕ) (s : List ℕ) (i : ℕ) where
-  pub whole-there : i + k ≤ length s → (r : ℕ) → r ≡ word k s i → (r ≡ whole k s i) × (i + k ≤ length s → r ≡ word k s i)
-  whole-there h r e = (rw (le-leb (i + k) (length s) h) e, λ _. e)
+module _ (k : ℕ) (src : List ℕ) (i : ℕ) where
+  pub whole-there : i + k ≤ length src → (r : ℕ) → r ≡ word k src i → (r ≡ wholeWord k src i) × (i + k ≤ length src → r ≡ word k src i)
+  whole-there h r e = (rw (le-leb (i + k) (length src) h) e, λ _. e)
 
-  pub whole-missing : length s < i + k → (0 ≡ whole k s i) × (i + k ≤ length s → 0 ≡ word k s i)
-  whole-missing h = (rw (lt-leb (i + k) (length s) h), λ l. absurd (omega arith))
+  pub whole-missing : length src < i + k → (0 ≡ wholeWord k src i) × (i + k ≤ length src → 0 ≡ word k src i)
+  whole-missing h = (rw (lt-leb (i + k) (length src) h), λ l. absurd (omega arith))

@@ -1,9 +1,10 @@
--- A choice between two values by a test, a test as a number, and a number's place in a list.
+-- A choice between two values by a test, a test as a number, and whether a number stands in a list. All to be believed: the rules are written in them.
 use Prim.Native.Nat.{ℕ}
 use mathlib.Core.Bool.{Bool, true, false, _||_}
 use mathlib.Core.List.{List, [], _∷_}
 use lib.Dec.{eqb}
 
+-- the first value where the test holds, else the second
 abbrev pub pick : {A : Type 0} → Bool → A → A → A
 pick true a b = a
 pick false a b = b

@@ -1,4 +1,4 @@
--- Bit fields of a number: bit 0 is the lowest.
+-- Bit fields of a number, bit 0 the lowest. All to be believed: document 01's header layout is written in them.
 use Prim.Native.Nat.{ℕ, _/_, _%_, _^_}
 use mathlib.Core.Bool.{Bool}
 use lib.Dec.{eqb}

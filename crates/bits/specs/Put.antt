@@ -1,4 +1,4 @@
--- Bytes laid over a part of a list.
+-- Bytes laid over a part of a list. To be believed: what a call leaves of a thing lent to it is written in it.
 use Prim.Native.Nat.{ℕ, _+_}
 use mathlib.Core.List.{List, _++_}
 use lib.ListN.{length, take, drop}

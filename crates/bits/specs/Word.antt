@@ -1,4 +1,4 @@
--- Numbers of several bytes: "multi-byte fields have the high byte first".
+-- Numbers of several bytes: "Multi-byte fields have the high byte first." All to be believed, but `wholeWord`, which serves only quick reading.
 use Prim.Native.Nat.{ℕ, zero, suc, _+_, _*_, _/_, _%_, _^_}
 use mathlib.Core.List.{List, [], _∷_}
 use lib.Dec.{leb}
@@ -7,16 +7,16 @@ use Rattle.bits.specs.Choice.{pick}
 
 -- the byte at place i; 0 past the end
 abbrev pub byte : List ℕ → ℕ → ℕ
-byte s i = getD s i 0
+byte src i = getD src i 0
 
 -- the number in the k bytes from place i on
 abbrev pub word : ℕ → List ℕ → ℕ → ℕ
-word zero s i = 0
-word (suc k) s i = byte s i * 256 ^ k + word k s (i + 1)
+word zero src i = 0
+word (suc k) src i = byte src i * 256 ^ k + word k src (i + 1)
 
 -- the same, and 0 where not all of the k bytes are there
-abbrev pub whole : ℕ → List ℕ → ℕ → ℕ
-whole k s i = pick (leb (i + k) (length s)) (word k s i) 0
+abbrev pub wholeWord : ℕ → List ℕ → ℕ → ℕ
+wholeWord k src i = pick (leb (i + k) (length src)) (word k src i) 0
 
 -- the k bytes of the number x
 abbrev pub bytes : ℕ → ℕ → List ℕ

@@ -3,14 +3,15 @@ ghost use mathlib.Core.Path.{_≡_};
 ghost use Prim.Native.Nat.{ℕ, _+_, _*_, _/_, _%_, _^_, _≤_, _<_};
 ghost use mathlib.Core.List.{List, [], _∷_};
 ghost use lib.ListN.{length};
-ghost use Rattle.bits.specs.Word.{byte, word, whole, bytes};
+ghost use Rattle.bits.specs.Word.{byte, word, wholeWord, bytes};
 
-pub fn byte_at(s: &[u8], at: u32) -> u8
-    ensures { λ r. ⌜ r ≡ byte (now (s .entry)) at ⌝ }
+// The byte at a place.
+pub fn byte_at(src: &[u8], at: u32) -> u8
+    ensures { λ r. ⌜ r ≡ byte (now (src .entry)) at ⌝ }
 {
     let i = at as usize;
-    if i < s.len() {
-        return s[i];
+    if i < src.len() {
+        return src[i];
     }
     0
 }
@@ -33,70 +34,76 @@ fn join64(a: u32, b: u32) -> u64
     (a as u64) * 4294967296 + (b as u64)
 }
 
-fn pair(s: &[u8], i: u32) -> u16
+fn pair(src: &[u8], i: u32) -> u16
     requires { ⌜ i < 131072 ⌝ }
-    ensures { λ r. ⌜ r ≡ word 2 (now (s .entry)) i ⌝ }
+    ensures { λ r. ⌜ r ≡ word 2 (now (src .entry)) i ⌝ }
 {
-    join16(byte_at(s, i), byte_at(s, i + 1))
+    join16(byte_at(src, i), byte_at(src, i + 1))
 }
 
-fn quad(s: &[u8], i: u32) -> u32
+fn quad(src: &[u8], i: u32) -> u32
     requires { ⌜ i < 131070 ⌝ }
-    ensures { λ r. ⌜ r ≡ word 4 (now (s .entry)) i ⌝ }
+    ensures { λ r. ⌜ r ≡ word 4 (now (src .entry)) i ⌝ }
 {
-    join32(pair(s, i), pair(s, i + 2))
+    join32(pair(src, i), pair(src, i + 2))
 }
 
-pub fn word16(s: &[u8], at: u16) -> u16
-    ensures { λ r. ⌜ r ≡ word 2 (now (s .entry)) at ⌝ }
+// The number in the two bytes from a place on.
+pub fn word16(src: &[u8], at: u16) -> u16
+    ensures { λ r. ⌜ r ≡ word 2 (now (src .entry)) at ⌝ }
 {
-    pair(s, at as u32)
+    pair(src, at as u32)
 }
 
-pub fn word32(s: &[u8], at: u16) -> u32
-    ensures { λ r. ⌜ r ≡ word 4 (now (s .entry)) at ⌝ }
+// The number in four bytes.
+pub fn word32(src: &[u8], at: u16) -> u32
+    ensures { λ r. ⌜ r ≡ word 4 (now (src .entry)) at ⌝ }
 {
-    quad(s, at as u32)
+    quad(src, at as u32)
 }
 
-pub fn word64(s: &[u8], at: u16) -> u64
-    ensures { λ r. ⌜ r ≡ word 8 (now (s .entry)) at ⌝ }
+// The number in eight bytes.
+pub fn word64(src: &[u8], at: u16) -> u64
+    ensures { λ r. ⌜ r ≡ word 8 (now (src .entry)) at ⌝ }
 {
     let i = at as u32;
-    join64(quad(s, i), quad(s, i + 4))
+    join64(quad(src, i), quad(src, i + 4))
 }
 
-fn two(s: &[u8], i: usize) -> u16
-    requires { ⌜ i + 2 ≤ length (now s) ⌝ }
-    ensures { λ r. ⌜ r ≡ word 2 (now (s .entry)) i ⌝ }
+fn two(src: &[u8], i: usize) -> u16
+    requires { ⌜ i + 2 ≤ length (now src) ⌝ }
+    ensures { λ r. ⌜ r ≡ word 2 (now (src .entry)) i ⌝ }
 {
-    join16(s[i], s[i + 1])
+    join16(src[i], src[i + 1])
 }
 
-fn four(s: &[u8], i: usize) -> u32
-    requires { ⌜ i + 4 ≤ length (now s) ⌝ }
-    ensures { λ r. ⌜ r ≡ word 4 (now (s .entry)) i ⌝ }
+fn four(src: &[u8], i: usize) -> u32
+    requires { ⌜ i + 4 ≤ length (now src) ⌝ }
+    ensures { λ r. ⌜ r ≡ word 4 (now (src .entry)) i ⌝ }
 {
-    join32(two(s, i), two(s, i + 2))
+    join32(two(src, i), two(src, i + 2))
 }
 
 // A number all of whose bytes are there, else 0: one look at the length for all eight.
-pub fn whole64(s: &[u8], at: u16) -> u64
-    ensures { λ r. ⌜ (r ≡ whole 8 (now (s .entry)) at) × (at + 8 ≤ length (now (s .entry)) → r ≡ word 8 (now (s .entry)) at) ⌝ }
+pub fn whole64(src: &[u8], at: u16) -> u64
+    ensures { λ r. ⌜ r ≡ wholeWord 8 (now (src .entry)) at ⌝ }
+    ensures { λ r. ⌜ (at + 8 ≤ length (now (src .entry)) → r ≡ word 8 (now (src .entry)) at) ⌝ }
 {
     let i = at as usize;
-    if s.len() < i + 8 {
+    if src.len() < i + 8 {
         return 0;
     }
-    join64(four(s, i), four(s, i + 4))
+    join64(four(src, i), four(src, i + 4))
 }
 
+// A number's two bytes, the high byte first.
 pub fn bytes16(x: u16) -> [u8; 2]
     ensures { λ r. ⌜ r ≡ bytes 2 x ⌝ }
 {
     [(x / 256 % 256) as u8, (x % 256) as u8]
 }
 
+// A number's four bytes.
 pub fn bytes32(x: u32) -> [u8; 4]
     ensures { λ r. ⌜ r ≡ bytes 4 x ⌝ }
 {
@@ -108,6 +115,7 @@ pub fn bytes32(x: u32) -> [u8; 4]
     ]
 }
 
+// A number's eight bytes.
 pub fn bytes64(x: u64) -> [u8; 8]
     ensures { λ r. ⌜ r ≡ bytes 8 x ⌝ }
 {

@@ -2,16 +2,16 @@
 use mathlib.Core.Path.{_≡_, refl}
 use mathlib.Core.Bool.{Bool, true, false}
 use mathlib.Core.Logic.{⊎-elim}
-use Prim.Native.Nat.{ℕ, zero, suc, _+_, _*_, _/_, _%_, _≤_, _<_, zero-le}
+use Prim.Native.Nat.{ℕ, zero, suc, _+_, _*_, _/_, _%_, _≤_, _<_}
 use native.Mathlib.Nat.{zero-add, suc-add, add-zero, add-assoc, eq-zero-or-pos, zero-lt-suc, mod-lt}
 use native.Mathlib.Numerals.{one-add}
 use native.Mathlib.Omega.{arith}
 use lib.Dec.{eqb}
 use borrow.Author.Tests.{eq-eqb, ne-eqb, le-leb, lt-leb}
 use Rattle.bits.specs.Count.{clearBelow, clearAbove, setBits}
-use Rattle.bits.specs.Choice.{pick}
+use Rattle.bits.specs.Choice.{pick, flag}
 use Rattle.bits.specs.Field.{field}
-use Rattle.bits.proofs.CountLaws.{set-le, below-above}
+use Rattle.bits.proofs.CountLaws.{below-above}
 use Rattle.byte_enables.specs.declared.Access.{Access}
 use Rattle.byte_enables.specs.Enables.{off, ending, trail, enablesAt, enabled, enabledBytes}
 
@@ -32,10 +32,6 @@ pub trail-lt : (a : Access) → trail a < 4
 unfolding trail
 trail-lt a = omega (arith, both-ends (ending a))
 
-pub off-trail : (a : Access) → a .length ≡ 1 → off a + trail a ≤ 3
-unfolding off trail
-off-trail a h = rw (eq-eqb (a .length) 1 h) (both-ends (a .first))
-
 -- ---- how many are enabled
 
 pub enabled-add : (a : Access) (m n p : ℕ) → enabledBytes a p (m + n) ≡ enabledBytes a p m + enabledBytes a (p + m) n
@@ -45,11 +41,6 @@ enabled-add a (suc m) n p = simp (suc-add, enabled-add a m n (p + 1), add-assoc,
 
 pub enabled-from : (a : Access) (p n : ℕ) → enabledBytes a 0 (p + n) ≡ enabledBytes a 0 p + enabledBytes a p n
 enabled-from a p n = rw zero-add at (enabled-add a p n 0)
-
-pub enabled-le : (a : Access) (p n : ℕ) → enabledBytes a p n ≤ 4 * n
-unfolding enabledBytes
-enabled-le a p zero = zero-le
-enabled-le a p (suc n) = omega (arith, set-le 4 (enablesAt a p), enabled-le a (p + 1) n)
 
 -- none past the end
 pub enabled-none : (a : Access) (n p : ℕ) → a .length ≤ p → enabledBytes a p n ≡ 0
@@ -76,24 +67,20 @@ enabled-last a p h e =
 
 -- ---- byte by byte
 
-abbrev pub number : Bool → ℕ
-number true = 1
-number false = 0
+flag-bit : (d : ℕ) → d < 2 → flag (eqb d 1) ≡ d
+flag-bit zero h = refl
+flag-bit (suc zero) h = refl
+flag-bit (suc (suc d)) h = absurd (omega arith)
 
-number-bit : (d : ℕ) → d < 2 → number (eqb d 1) ≡ d
-number-bit zero h = refl
-number-bit (suc zero) h = refl
-number-bit (suc (suc d)) h = absurd (omega arith)
-
-byte-count : (a : Access) (i j k : ℕ) → j < 4 → k ≡ 4 * i + j → number (enabled a k) ≡ field (enablesAt a i) j 1
+byte-count : (a : Access) (i j k : ℕ) → j < 4 → k ≡ 4 * i + j → flag (enabled a k) ≡ field (enablesAt a i) j 1
 unfolding enabled
 byte-count a i j k h e =
     let q : k / 4 ≡ i = omega arith in
     let r : k % 4 ≡ j = omega arith in
-    rw (q, r) (number-bit (field (enablesAt a i) j 1) (mod-lt _ (zero-lt-suc 1)))
+    rw (q, r) (flag-bit (field (enablesAt a i) j 1) (mod-lt _ (zero-lt-suc 1)))
 
 pub enabled-count : (a : Access) (i : ℕ)
-    → number (enabled a (4 * i)) + number (enabled a (4 * i + 1)) + number (enabled a (4 * i + 2)) + number (enabled a (4 * i + 3)) ≡ enabledBytes a i 1
+    → flag (enabled a (4 * i)) + flag (enabled a (4 * i + 1)) + flag (enabled a (4 * i + 2)) + flag (enabled a (4 * i + 3)) ≡ enabledBytes a i 1
 unfolding enabledBytes setBits
 enabled-count a i =
     omega (arith, byte-count a i 0 (4 * i) (omega arith) (omega arith), byte-count a i 1 (4 * i + 1) (omega arith) refl, byte-count a i 2 (4 * i + 2) (omega arith) refl, byte-count a i 3 (4 * i + 3) (omega arith) refl)

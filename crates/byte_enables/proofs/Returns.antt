@@ -9,7 +9,7 @@ use borrow.Author.Tests.{eq-eqb, ne-eqb, le-leb, lt-leb}
 use Rattle.bits.specs.Choice.{oneOf}
 use Rattle.bits.specs.Count.{clearBelow, clearAbove, setBits}
 use Rattle.byte_enables.specs.declared.Access.{Access}
-use Rattle.byte_enables.specs.Enables.{firstKinds, lastKinds, enablesAllowed, off, ending, trail, total, enablesAt, enabled, enabledBytes}
+use Rattle.byte_enables.specs.Enables.{firstKinds, lastKinds, enablesAllowed, off, ending, trail, enablesAt, enabled, enabledBytes}
 use Rattle.byte_enables.proofs.Laws.{enabled-add, enabled-none, enabled-middle, enabled-first, enabled-last}
 
 -- which enables are allowed
@@ -63,15 +63,7 @@ module _ (a : Access) where
   unfolding trail
   trail-some n r e h k = rw (← e, ne-eqb (n % 16) 0 h) k
 
-  pub total-none : (o t : ℕ) → o ≡ off a → t ≡ trail a → 4 * a .length < o + t → 0 ≡ total a
-  unfolding total
-  total-none o t e f h = omega arith
-
-  pub total-some : (o t : ℕ) → o ≡ off a → t ≡ trail a → o + t ≤ 4 * a .length → 4 * a .length - (o + t) ≡ total a
-  unfolding total
-  total-some o t e f h = omega arith
-
-pub ruleset end-laws = (off-none, off-some, ending-one, ending-more, trail-none, trail-some, total-none, total-some)
+pub ruleset end-laws = (off-none, off-some, ending-one, ending-more, trail-none, trail-some)
 
 -- the enables of one doubleword
 
@@ -93,15 +85,15 @@ module _ (a : Access) (i : ℕ) where
     unfolding enablesAt
     at-middle h e = rw (lt-leb (a .length) i l, ne-eqb i 0 h, ne-eqb (i + 1) (a .length) e)
 
-pub at-past : (a : Access) (k : ℕ) → a .length ≤ k / 4 → false ≡ enabled a k
+pub at-end : (a : Access) (k : ℕ) → a .length ≤ k / 4 → false ≡ enabled a k
 unfolding enabled enablesAt
-at-past a k h = rw (le-leb (a .length) (k / 4) h, zero-div (2 ^ (k % 4)))
+at-end a k h = rw (le-leb (a .length) (k / 4) h, zero-div (2 ^ (k % 4)))
 
 pub at-byte : (a : Access) (k e : ℕ) → e ≡ enablesAt a (k / 4) → eqb (e / 2 ^ (k % 4) % 2) 1 ≡ enabled a k
 unfolding enabled
 at-byte a k e h = rw h
 
-pub ruleset at-laws = (at-none, at-first, at-last, at-middle, at-past, at-byte)
+pub ruleset at-laws = (at-none, at-first, at-last, at-middle, at-end, at-byte)
 
 -- the enabled bytes of the first m doublewords
 

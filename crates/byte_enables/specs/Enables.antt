@@ -1,4 +1,5 @@
 -- Document 01, "Byte enables": which bytes of a request's doublewords are enabled, over one request (address, length, first, last).
+-- All to be believed.
 use Prim.Native.Nat.{ℕ, zero, suc, _+_, _-_, _*_, _/_, _%_}
 use mathlib.Core.Bool.{Bool, _&&_, not}
 use mathlib.Core.List.{List, [], _∷_}
@@ -48,7 +49,7 @@ enablesAt a i =
     (pick (eqb (i + 1) (a .length)) (a .last % 16)
     0b1111))
 
--- whether byte k of the window is enabled: "bit 0 is the lowest byte"
+-- whether byte k of the window is enabled: "Bit 0 is the lowest byte."
 unfoldable pub enabled : Access → ℕ → Bool
 enabled a k = bit (enablesAt a (k / 4)) (k % 4)
 

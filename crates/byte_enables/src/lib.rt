@@ -3,7 +3,7 @@ ghost use mathlib.Core.Path.{_≡_};
 ghost use Prim.Native.Nat.{ℕ, _+_, _-_, _*_, _/_, _%_};
 ghost use mathlib.Core.List.{List, [], _∷_};
 ghost use Rattle.bits.specs.Choice.{oneOf};
-ghost use Rattle.byte_enables.specs.Enables.{firstKinds, lastKinds, enablesAllowed, off, ending, trail, total, enablesAt, enabled, enabledBytes};
+ghost use Rattle.byte_enables.specs.Enables.{firstKinds, lastKinds, enablesAllowed, off, ending, trail, enablesAt, enabled, enabledBytes};
 
 // What the rules for enables look at: one request's address, its length in doublewords, and the enables of its first and last doubleword.
 pub struct Access {
@@ -13,6 +13,7 @@ pub struct Access {
     pub last: u8,
 }
 
+// One of four kinds.
 fn one_of(n: u8, a: u8, b: u8, c: u8, d: u8) -> bool
     ensures { λ r. ⌜ r ≡ oneOf (a ∷ b ∷ c ∷ d ∷ []) n ⌝ }
 {
@@ -40,6 +41,7 @@ fn last_kind(n: u8) -> bool
     one_of(n, 0b1111, 0b0111, 0b0011, 0b0001)
 }
 
+// Whether a request of this length may have these enables.
 pub fn enables_allowed(a: Access) -> bool
     ensures { λ r. ⌜ r ≡ enablesAllowed a ⌝ }
 {
@@ -58,6 +60,7 @@ pub fn enables_allowed(a: Access) -> bool
     false
 }
 
+// How many bytes into the window the first enabled one stands.
 pub fn off_of(a: Access) -> u32
     ensures { λ r. ⌜ r ≡ off a ⌝ }
 {
@@ -77,6 +80,7 @@ fn ending_of(a: Access) -> u8
     a.last
 }
 
+// How many bytes before the window's end the last enabled one stands.
 pub fn trail_of(a: Access) -> u32
     ensures { λ r. ⌜ r ≡ trail a ⌝ }
 {
@@ -87,17 +91,7 @@ pub fn trail_of(a: Access) -> u32
     bits::count::clear_above(n)
 }
 
-pub fn total_of(a: Access) -> u64
-    ensures { λ r. ⌜ r ≡ total a ⌝ }
-{
-    let all = 4 * a.length as u64;
-    let out = (off_of(a) + trail_of(a)) as u64;
-    if all < out {
-        return 0;
-    }
-    all - out
-}
-
+// The enables of doubleword i of a request.
 pub fn enables_at(a: Access, i: u32) -> u8
     ensures { λ r. ⌜ r ≡ enablesAt a i ⌝ }
 {
@@ -113,6 +107,7 @@ pub fn enables_at(a: Access, i: u32) -> u8
     0b1111
 }
 
+// Whether byte k of the window is enabled.
 pub fn enabled_at(a: Access, k: u64) -> bool
     ensures { λ r. ⌜ r ≡ enabled a k ⌝ }
 {

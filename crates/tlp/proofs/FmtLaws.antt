@@ -8,7 +8,8 @@ use mathlib.Core.Bool.{Bool, true, false, not, _&&_, and-eq-true-iff, true≢fal
 use lib.Dec.{eqb, leb}
 use borrow.Author.Tests.{eqb-true, leb-true, le-leb, lt-leb, ne-eqb}
 use Rattle.bits.specs.Choice.{pick}
-use Rattle.tlp.specs.PacketTypes.{typeAt, headerDw, hasData, familyOf, familyByType, isUnlisted}
+use Rattle.tlp.specs.PacketTypes.{typeAt, headerDw, hasData, familyOf, isUnlisted}
+use Rattle.tlp.specs.Inner.PacketTypes.{familyByType}
 use Rattle.tlp.specs.declared.packet_type.Family.{Family}
 use Rattle.tlp.specs.declared.packet_type.Family.the-variants.{Message}
 use Rattle.tlp.specs.declared.packet_type.PacketType.{PacketType}

@@ -20,7 +20,8 @@ use Rattle.tlp.specs.declared.size.PacketSize.the-variants.{Bytes, Refus
 use Rattle.tlp.specs.Rows.{row, first}
 use Rattle.tlp.specs.PacketTypes.{typeAt}
 use Rattle.tlp.specs.Sizes.{bytesCalled, typeRows, sizeRows, sizeAnswer, sizeCalled}
-use Rattle.tlp.specs.Contents.{notPlain, ruledAsOne, registerRows, faultRows}
+use Rattle.tlp.specs.Contents.{notPlain, ruledAsOne, faultRows}
+use Rattle.tlp.specs.Inner.Contents.{registerRows}
 use Rattle.tlp.specs.Packets.{addressOf, typeIn, typeOf, accessIn, accessOf}
 
 module _ (p : Packet) (k : Kind) (a : ℕ) (e : p .kind ≡ k) (h : a ≡ addressOf (p .route)) where
@@ -38,24 +39,24 @@ fault-law f g a tc attr at m e q = rw e q
 
 -- enables looked at as for length 1
 pub register-law : (a x : Access) (tc attr at m : ℕ) → x ≡ ruledAsOne a
-    → m ≡ first (row 6 (notPlain a tc attr at) ∷ row 7 (not (enablesAllowed x)) ∷ [])
+    → m ≡ first (row 6 (notPlain (a .length) tc attr at) ∷ row 7 (not (enablesAllowed x)) ∷ [])
     → m ≡ first (registerRows a tc attr at)
 register-law a x tc attr at m e q = rw (← e) q
 
 -- sizes
-module _ (s : List ℕ) (b : ℕ) (t : PacketType) (n : ℕ) (e : b ≡ byte s 0) (h : t ≡ typeAt b) (q : n ≡ first (typeRows (length s) t)) where
-  number-is : n ≡ first (sizeRows s)
+module _ (bytes : List ℕ) (b : ℕ) (t : PacketType) (n : ℕ) (e : b ≡ byte bytes 0) (h : t ≡ typeAt b) (q : n ≡ first (typeRows (length bytes) t)) where
+  number-is : n ≡ first (sizeRows bytes)
   number-is = rw (← e, ← h) q
 
-  pub size-refused : (n ≡ 0 → ⊥) → Refused n ≡ sizeCalled s
+  pub size-refused : (n ≡ 0 → ⊥) → Refused n ≡ sizeCalled bytes
   unfolding sizeCalled
   size-refused z = rw (← number-is) (answer n z)
     where
-      answer : (n : ℕ) → (n ≡ 0 → ⊥) → Refused n ≡ sizeAnswer n (bytesCalled (typeAt (byte s 0)) s)
+      answer : (n : ℕ) → (n ≡ 0 → ⊥) → Refused n ≡ sizeAnswer n (bytesCalled (typeAt (byte bytes 0)) bytes)
       answer zero z = absurd (z refl)
       answer (suc n) z = refl
 
-  pub size-bytes : (r : ℕ) → n ≡ 0 → r ≡ bytesCalled t s → Bytes r ≡ sizeCalled s
+  pub size-bytes : (r : ℕ) → n ≡ 0 → r ≡ bytesCalled t bytes → Bytes r ≡ sizeCalled bytes
   unfolding sizeCalled
   size-bytes r z k = rw (← number-is, z, ← e, ← h) (ap Bytes k)
 

@@ -1,4 +1,5 @@
 -- Document 01, rows 5 to 8 of the number table, over decoded values, so that the writer's "5 to 9 as above" is the same definition.
+-- All to be believed.
 use Prim.Native.Nat.{ℕ, _+_, _*_, _%_, _/_, _^_}
 use mathlib.Core.Bool.{Bool, true, false, _||_, _&&_, not}
 use mathlib.Core.List.{List, [], _∷_}
@@ -16,9 +17,10 @@ use Rattle.tlp.specs.declared.packet_type.Family.{Family}
 use Rattle.tlp.specs.declared.packet_type.Family.the-variants.{Memory, Io, Config, Message, Completion, Unlisted}
 
 -- "Length not 1, or TC, Attr[1:0] or AT not 0"
-unfoldable pub notPlain : Access → ℕ → ℕ → ℕ → Bool
-notPlain a tc attr at = not (eqb (a .length) 1) || (not (eqb tc 0) || (not (eqb (low attr 2) 0) || not (eqb at 0)))
+unfoldable pub notPlain : ℕ → ℕ → ℕ → ℕ → Bool
+notPlain length tc attr at = not (eqb length 1) || (not (eqb tc 0) || (not (eqb (low attr 2) 0) || not (eqb at 0)))
 
+-- the enables as those of length 1
 abbrev pub ruledAsOne : Access → Access
 ruledAsOne a = record { address = a .address; length = 1; first = a .first; last = a .last }
 
@@ -35,6 +37,7 @@ enablesBad Unlisted a = false
 abbrev pub crossesPage : Access → Bool
 crossesPage a = ltb 4096 (a .address % 4096 + 4 * a .length)
 
+-- the same of memory requests alone
 unfoldable pub pageBad : Family → Access → Bool
 pageBad Memory a = crossesPage a
 pageBad Io a = false
@@ -45,7 +48,7 @@ pageBad Unlisted a = false
 
 -- "I/O or configuration with Length not 1, or TC, Attr[1:0] or AT not 0"
 unfoldable pub plainBad : Family → Access → ℕ → ℕ → ℕ → Bool
-plainBad f a tc attr at = isIoOrConfig f && notPlain a tc attr at
+plainBad f a tc attr at = isIoOrConfig f && notPlain (a .length) tc attr at
 
 -- rows 6 to 8 of a family f; at is the AT field
 abbrev pub faultRows : Family → Access → ℕ → ℕ → ℕ → List Row
@@ -54,13 +57,6 @@ faultRows f a tc attr at =
     ∷ row 7 (enablesBad f a)
     ∷ row 8 (pageBad f a)
     ∷ []
-
--- those of them that can hold of a memory request, and of I/O and configuration; of other families none can
-abbrev pub memoryRows : Access → List Row
-memoryRows a = row 7 (not (enablesAllowed a)) ∷ row 8 (crossesPage a) ∷ []
-
-abbrev pub registerRows : Access → ℕ → ℕ → ℕ → List Row
-registerRows a tc attr at = row 6 (notPlain a tc attr at) ∷ row 7 (not (enablesAllowed (ruledAsOne a))) ∷ []
 
 -- rows 5 to 8 of a type t of family f
 abbrev pub valueRows : ℕ → PacketType → Family → Access → ℕ → ℕ → ℕ → List Row

@@ -5,3 +5,4 @@ pub mod Packets
 pub mod Sizes
 pub mod Contents
 pub mod Reserved
+pub mod Inner

@@ -1,8 +1,10 @@
--- Document 01's kind table: the kinds by byte 0, with header size and whether data follows.
+-- Document 01's kind table: the kinds by byte 0, with header size and whether data follows. All to be believed.
 use Prim.Native.Nat.{ℕ}
 use mathlib.Core.Bool.{Bool, true, false, _&&_}
+use mathlib.Core.List.{List}
 use lib.Dec.{leb, eqb}
 use Rattle.bits.specs.Choice.{pick}
+use Rattle.bits.specs.Word.{byte}
 use Rattle.tlp.specs.declared.packet_type.PacketType.{PacketType}
 use Rattle.tlp.specs.declared.packet_type.PacketType.the-variants.{MRd32, MRd64, MWr32, MWr64, IORd, IOWr, CfgRd0, CfgWr0, CfgRd1, CfgWr1, Msg, MsgD, Cpl, CplD, Unlisted}
 use Rattle.tlp.specs.declared.packet_type.Family.{Family}
@@ -26,6 +28,10 @@ typeAt b =
     (pick (eqb b 0x0A) Cpl
     (pick (eqb b 0x4A) CplD
     Unlisted)))))))))))))
+
+-- the type of a packet's bytes
+abbrev pub packetTypeAt : List ℕ → PacketType
+packetTypeAt bytes = typeAt (byte bytes 0)
 
 -- the column "Header DW"
 abbrev pub headerDw : PacketType → ℕ
@@ -98,10 +104,6 @@ familyOf MsgD = Message
 familyOf Cpl = Completion
 familyOf CplD = Completion
 familyOf Unlisted = NoFamily
-
--- the family by Type 4:0 alone, for a type in the table
-abbrev pub familyByType : ℕ → Family
-familyByType n = pick (eqb n 0) Memory (pick (eqb n 2) Io (pick (eqb n 4) Config (pick (eqb n 5) Config (pick (eqb n 10) Completion Message))))
 
 -- "byte 0 is not in the kind table"
 abbrev pub isUnlisted : Family → Bool

@@ -1,4 +1,4 @@
--- What a packet's fields say of the packet as a whole.
+-- What a packet's fields say of the packet as a whole. All to be believed.
 use Prim.Native.Nat.{ℕ, _^_}
 use mathlib.Core.Bool.{Bool, true, false}
 use lib.Dec.{ltb}
@@ -29,6 +29,7 @@ idOf (Implicit w) = 0
 abbrev pub memoryForm : ℕ → PacketType → PacketType → PacketType
 memoryForm a narrow wide = pick (ltb a (2 ^ 32)) narrow wide
 
+-- the same by the kind and the route's address
 abbrev pub typeIn : ℕ → Kind → PacketType
 typeIn a (MemoryRead q) = memoryForm a MRd32 MRd64
 typeIn a (MemoryWrite q) = memoryForm a MWr32 MWr64
@@ -47,12 +48,15 @@ typeIn a (CompletionData c n) = CplD
 unfoldable pub typeOf : Packet → PacketType
 typeOf p = typeIn (addressOf (p .route)) (p .kind)
 
+-- a request's address, length and enables
 abbrev pub accessAt : ℕ → Request → Access
 accessAt a q = record { address = a; length = q .length; first = q .first; last = q .last }
 
+-- a length with no address and no enables
 abbrev pub lengthAlone : ℕ → Access
 lengthAlone n = record { address = 0; length = n; first = 0; last = 0 }
 
+-- address, length and enables by the kind
 abbrev pub accessIn : ℕ → Kind → Access
 accessIn a (MemoryRead q) = accessAt a q
 accessIn a (MemoryWrite q) = accessAt a q

@@ -1,10 +1,9 @@
 -- Document 01: "Reserved are all bits not named above; Length in Msg and Cpl; AT and TH in messages and completions; TH and Attr[2] in I/O and
--- configuration." A mask for each byte of a header, in which a set bit is one that is not reserved.
+-- configuration." A mask for each byte of a header, in which a set bit is one that is not reserved. All to be believed.
 use Prim.Native.Nat.{ℕ}
 use mathlib.Core.List.{List, [], _∷_, _++_}
 use lib.Bits.{bitAnd}
-use Rattle.bits.specs.Word.{byte}
-use Rattle.tlp.specs.PacketTypes.{typeAt}
+use Rattle.tlp.specs.PacketTypes.{packetTypeAt}
 use Rattle.tlp.specs.declared.packet_type.PacketType.{PacketType}
 use Rattle.tlp.specs.declared.packet_type.PacketType.the-variants.{MRd32, MRd64, MWr32, MWr64, IORd, IOWr, CfgRd0, CfgWr0, CfgRd1, CfgWr1, Msg, MsgD, Cpl, CplD, Unlisted}
 
@@ -66,4 +65,4 @@ masked (m ∷ ms) (b ∷ bs) = bitAnd b m ∷ masked ms bs
 
 -- a packet's bytes with its header's reserved bits cleared
 unfoldable pub clearReserved : List ℕ → List ℕ
-clearReserved s = masked (masks (typeAt (byte s 0))) s
+clearReserved bytes = masked (masks (packetTypeAt bytes)) bytes

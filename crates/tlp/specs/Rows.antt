@@ -1,4 +1,4 @@
--- A table of numbers "in order of checking": the first row that holds gives its number.
+-- A table of numbers "in order of checking": the first row that holds gives its number. All to be believed.
 use Prim.Native.Nat.{ℕ, _<_}
 use mathlib.Core.Path.{_≡_}
 use mathlib.Core.Logic.{_⊎_, _↔_}

@@ -5,13 +5,14 @@ use byte_enables::enables_allowed;
 ghost use mathlib.Core.Path.{_≡_};
 ghost use Prim.Native.Nat.{ℕ, _+_, _*_, _%_};
 ghost use Rattle.tlp.specs.Rows.{first};
-ghost use Rattle.tlp.specs.Contents.{notPlain, ruledAsOne, crossesPage, memoryRows, registerRows, faultRows};
+ghost use Rattle.tlp.specs.Contents.{notPlain, ruledAsOne, crossesPage, faultRows};
+ghost use Rattle.tlp.specs.Inner.Contents.{memoryRows, registerRows};
 
-// Length not 1, or traffic class, Attr[1:0] or AT not 0.
-fn not_plain(a: Access, traffic_class: u8, attributes: u8, at: u8) -> bool
-    ensures { λ r. ⌜ r ≡ notPlain a «traffic_class» attributes at ⌝ }
+// What I/O and configuration must not have: a length that is not 1, or traffic class, Attr[1:0] or AT not 0.
+pub fn not_plain(length: u32, traffic_class: u8, attributes: u8, at: u8) -> bool
+    ensures { λ r. ⌜ r ≡ notPlain length «traffic_class» attributes at ⌝ }
 {
-    if a.length != 1 {
+    if length != 1 {
         return true;
     }
     if traffic_class != 0 {
@@ -35,6 +36,7 @@ fn ruled_as_one(a: Access) -> Access
     }
 }
 
+// Whether a memory request runs over the end of its page of 4096 bytes.
 pub fn crosses_page(a: Access) -> bool
     ensures { λ r. ⌜ r ≡ crossesPage a ⌝ }
 {
@@ -58,7 +60,7 @@ pub fn memory_fault(a: Access) -> u32
 pub fn register_fault(a: Access, traffic_class: u8, attributes: u8, at: u8) -> u32
     ensures { λ r. ⌜ r ≡ first (registerRows a «traffic_class» attributes at) ⌝ }
 {
-    if not_plain(a, traffic_class, attributes, at) {
+    if not_plain(a.length, traffic_class, attributes, at) {
         return 6;
     }
     if !enables_allowed(ruled_as_one(a)) {

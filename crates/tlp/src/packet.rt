@@ -53,6 +53,7 @@ pub struct CompletionHeader {
     pub lower_address: u8,
 }
 
+// What a packet is, with the fields that only packets of that kind have.
 pub enum Kind {
     MemoryRead(Request),
     MemoryWrite(Request),
@@ -74,6 +75,7 @@ pub enum Kind {
     },
 }
 
+// What reading gives and writing takes.
 pub struct Packet {
     pub traffic_class: u8,
     pub attributes: u8,

@@ -5,8 +5,10 @@ ghost use mathlib.Core.Bool.{false, not};
 ghost use lib.Dec.{eqb};
 ghost use Rattle.bits.specs.Choice.{pick};
 ghost use Rattle.bits.specs.Field.{bit};
-ghost use Rattle.tlp.specs.PacketTypes.{typeAt, headerDw, hasData, firstByte, familyOf, familyByType, isUnlisted, isIoOrConfig};
+ghost use Rattle.tlp.specs.PacketTypes.{typeAt, headerDw, hasData, firstByte, familyOf, isUnlisted, isIoOrConfig};
+ghost use Rattle.tlp.specs.Inner.PacketTypes.{familyByType};
 
+// The rows of the kind table.
 pub enum PacketType {
     MRd32,
     MRd64,
@@ -26,6 +28,7 @@ pub enum PacketType {
     Unlisted,
 }
 
+// Types that fall under the same rules.
 pub enum Family {
     Memory,
     Io,
@@ -35,6 +38,7 @@ pub enum Family {
     Unlisted,
 }
 
+// The type that byte 0 says.
 pub fn type_at(b0: u8) -> PacketType
     ensures { λ r. ⌜ r ≡ typeAt b0 ⌝ }
 {
@@ -168,7 +172,8 @@ pub fn is_listed(b0: u8) -> bool
 
 // The family by Type 4:0 alone, for a type in the table.
 pub fn family_by_type(b0: u8) -> Family
-    ensures { λ r. ⌜ (r ≡ familyByType (b0 % 32)) × (isUnlisted (familyOf (typeAt b0)) ≡ false → r ≡ familyOf (typeAt b0)) ⌝ }
+    ensures { λ r. ⌜ r ≡ familyByType (b0 % 32) ⌝ }
+    ensures { λ r. ⌜ (isUnlisted (familyOf (typeAt b0)) ≡ false → r ≡ familyOf (typeAt b0)) ⌝ }
 {
     let n = b0 % 32;
     match n {
@@ -183,14 +188,16 @@ pub fn family_by_type(b0: u8) -> Family
 
 // Fmt bit 0: a header of four doublewords, for a type in the table.
 pub fn is_wide(b0: u8) -> bool
-    ensures { λ r. ⌜ (r ≡ bit b0 5) × (isUnlisted (familyOf (typeAt b0)) ≡ false → r ≡ eqb (headerDw (typeAt b0)) 4) ⌝ }
+    ensures { λ r. ⌜ r ≡ bit b0 5 ⌝ }
+    ensures { λ r. ⌜ (isUnlisted (familyOf (typeAt b0)) ≡ false → r ≡ eqb (headerDw (typeAt b0)) 4) ⌝ }
 {
     b0 / 32 % 2 == 1
 }
 
 // Fmt bit 1: data follows, for a type in the table.
 pub fn data_follows(b0: u8) -> bool
-    ensures { λ r. ⌜ (r ≡ bit b0 6) × (isUnlisted (familyOf (typeAt b0)) ≡ false → r ≡ hasData (typeAt b0)) ⌝ }
+    ensures { λ r. ⌜ r ≡ bit b0 6 ⌝ }
+    ensures { λ r. ⌜ (isUnlisted (familyOf (typeAt b0)) ≡ false → r ≡ hasData (typeAt b0)) ⌝ }
 {
     b0 / 64 % 2 == 1
 }

@@ -32,12 +32,13 @@ fn boundary_listed(n: u32) -> bool
     n == 128
 }
 
-pub fn settings_listed(s: Settings) -> bool
-    ensures { λ r. ⌜ r ≡ settingsListed s ⌝ }
+// Whether every setting is in its list.
+pub fn settings_listed(settings: Settings) -> bool
+    ensures { λ r. ⌜ r ≡ settingsListed settings ⌝ }
 {
-    if size_listed(s.mps) {
-        if size_listed(s.mrrs) {
-            return boundary_listed(s.rcb);
+    if size_listed(settings.mps) {
+        if size_listed(settings.mrrs) {
+            return boundary_listed(settings.rcb);
         }
         return false;
     }

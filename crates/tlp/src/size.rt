@@ -15,6 +15,7 @@ ghost use Rattle.tlp.specs.Rows.{first};
 ghost use Rattle.tlp.specs.Sizes.{orMost, lengthAt, digestAt, dataBytes, digestBytes, bytesCalled, typeRows, sizeCalled};
 ghost use Rattle.tlp.specs.PacketTypes.{headerDw, familyOf, isUnlisted};
 
+// How many bytes a packet has, or the number that says why that can't be told.
 pub enum PacketSize {
     Bytes(usize),
     Refused(u32),
@@ -61,6 +62,7 @@ pub fn data_bytes(t: PacketType, n: u32) -> usize
     0
 }
 
+// The bytes that a digest takes.
 pub fn digest_bytes(present: bool) -> usize
     ensures { λ r. ⌜ r ≡ digestBytes present ⌝ }
 {

@@ -32,23 +32,23 @@ type-data b h = rw (eq-eqb b 0x4A h)
 pub type-plain : (b : ℕ) → (b ≡ 0x4A → ⊥) → Cpl ≡ completionType b
 type-plain b h = rw (ne-eqb b 0x4A h)
 
-pub packet-in : (s : List ℕ) (b : ℕ) (t : PacketType) (p : Packet) → b ≡ byte s 0 → t ≡ completionType b → p ≡ packetAt t s → p ≡ completionIn s
+pub packet-in : (bytes : List ℕ) (b : ℕ) (t : PacketType) (p : Packet) → b ≡ byte bytes 0 → t ≡ completionType b → p ≡ packetAt t bytes → p ≡ completionIn bytes
 unfolding completionIn
-packet-in s b t p eb et ep = rw (ep, et, eb)
+packet-in bytes b t p eb et ep = rw (ep, et, eb)
 
-module _ (s : List ℕ) where
-  pub has-short : length s < 12 → false ≡ hasCompletion s
+module _ (bytes : List ℕ) where
+  pub has-short : length bytes < 12 → false ≡ hasCompletion bytes
   unfolding hasCompletion
-  has-short l = rw (lt-leb 12 (length s) l)
+  has-short l = rw (lt-leb 12 (length bytes) l)
 
-  module _ (l : 12 ≤ length s) (b : ℕ) (e : b ≡ byte s 0) where
-    pub has-data : b ≡ 0x4A → true ≡ hasCompletion s
+  module _ (l : 12 ≤ length bytes) (b : ℕ) (e : b ≡ byte bytes 0) where
+    pub has-data : b ≡ 0x4A → true ≡ hasCompletion bytes
     unfolding hasCompletion
-    has-data h = rw (le-leb 12 (length s) l, ← e, eq-eqb b 0x4A h)
+    has-data h = rw (le-leb 12 (length bytes) l, ← e, eq-eqb b 0x4A h)
 
-    pub has-plain : (b ≡ 0x4A → ⊥) → eqb b 0x0A ≡ hasCompletion s
+    pub has-plain : (b ≡ 0x4A → ⊥) → eqb b 0x0A ≡ hasCompletion bytes
     unfolding hasCompletion
-    has-plain h = rw (le-leb 12 (length s) l, ← e, ne-eqb b 0x4A h)
+    has-plain h = rw (le-leb 12 (length bytes) l, ← e, ne-eqb b 0x4A h)
 
 pub ruleset has-laws = (has-short, has-data, has-plain)
 
@@ -72,26 +72,26 @@ completion-family b = go (eqb b 0x4A)
     go false = refl
 
 -- the rows of a completion, whichever of the two types it has
-typed-rows : (c : Settings) (s : List ℕ) (t : PacketType) → settingsListed c ≡ true → 12 ≤ length s → typeAt (byte s 0) ≡ t → familyOf t ≡ Completion
-    → first (readRows c s) ≡ first (completionRows (c .mps) (accessOf (packetAt t s) .length) s)
+typed-rows : (c : Settings) (bytes : List ℕ) (t : PacketType) → settingsListed c ≡ true → 12 ≤ length bytes → typeAt (byte bytes 0) ≡ t → familyOf t ≡ Completion
+    → first (readRows c bytes) ≡ first (completionRows (c .mps) (accessOf (packetAt t bytes) .length) bytes)
 unfolding first hintOrAddressTypeSet plainBad enablesBad pageBad routingBad formBad bytesCalled dataBytes accessOf packetAt routeAt kindAt
-typed-rows c s t ok l e f =
-    completion-types (λ u. typeAt (byte s 0) ≡ u → first (readRows c s) ≡ first (completionRows (c .mps) (accessOf (packetAt u s) .length) s))
-    (λ k. rw (k, ok, le-ltb (length s) 12 l))
-    (λ k. rw (k, ok, le-ltb (length s) 12 l))
+typed-rows c bytes t ok l e f =
+    completion-types (λ u. typeAt (byte bytes 0) ≡ u → first (readRows c bytes) ≡ first (completionRows (c .mps) (accessOf (packetAt u bytes) .length) bytes))
+    (λ k. rw (k, ok, le-ltb (length bytes) 12 l))
+    (λ k. rw (k, ok, le-ltb (length bytes) 12 l))
     t f e
 
-module _ (s : List ℕ) (h : hasCompletion s ≡ true) where
-  both : (leb 12 (length s) ≡ true) × ((eqb (byte s 0) 0x4A || eqb (byte s 0) 0x0A) ≡ true)
+module _ (bytes : List ℕ) (h : hasCompletion bytes ≡ true) where
+  both : (leb 12 (length bytes) ≡ true) × ((eqb (byte bytes 0) 0x4A || eqb (byte bytes 0) 0x0A) ≡ true)
   unfolding hasCompletion
-  both = and-eq-true-iff (leb 12 (length s)) (eqb (byte s 0) 0x4A || eqb (byte s 0) 0x0A) .0 h
+  both = and-eq-true-iff (leb 12 (length bytes)) (eqb (byte bytes 0) 0x4A || eqb (byte bytes 0) 0x0A) .0 h
 
   -- the first row that holds is 3 or 5
-  pub completion-rows : (c : Settings) → settingsListed c ≡ true → first (readRows c s) ≡ first (completionRows (c .mps) (accessOf (completionIn s) .length) s)
+  pub completion-rows : (c : Settings) → settingsListed c ≡ true → first (readRows c bytes) ≡ first (completionRows (c .mps) (accessOf (completionIn bytes) .length) bytes)
   unfolding completionIn
-  completion-rows c ok = typed-rows c s (completionType (byte s 0)) ok (leb-true 12 (length s) (both .0)) (completion-type (byte s 0) (both .1)) (completion-family (byte s 0))
+  completion-rows c ok = typed-rows c bytes (completionType (byte bytes 0)) ok (leb-true 12 (length bytes) (both .0)) (completion-type (byte bytes 0) (both .1)) (completion-family (byte bytes 0))
 
   -- and the packet is the bytes as a completion
-  pub completion-packet : packetAt (typeAt (byte s 0)) s ≡ completionIn s
+  pub completion-packet : packetAt (typeAt (byte bytes 0)) bytes ≡ completionIn bytes
   unfolding completionIn
-  completion-packet = rw (completion-type (byte s 0) (both .1))
+  completion-packet = rw (completion-type (byte bytes 0) (both .1))

@@ -29,10 +29,10 @@ drop-min n l =
     (λ h. drop-of-length-le l {i = min n (length l)} (omega arith) ∙ sym (drop-of-length-le l {i = n} (omega arith)))
     (eq-zero-or-pos (n - length l))
 
-pub payload-law : (p : Packet) (s : List ℕ) (t : PacketType) (a : Access) (h b e d : ℕ)
-    → t ≡ typeOf p → a ≡ accessOf p → h ≡ headerDw t → b ≡ min (4 * h) (length s) → d ≡ dataBytes t (a .length) → e ≡ min d (length s - b)
-    → take ((b + e) - b) (drop b s) ≡ payloadOf p s
+pub payload-law : (p : Packet) (bytes : List ℕ) (t : PacketType) (a : Access) (h b e d : ℕ)
+    → t ≡ typeOf p → a ≡ accessOf p → h ≡ headerDw t → b ≡ min (4 * h) (length bytes) → d ≡ dataBytes t (a .length) → e ≡ min d (length bytes - b)
+    → take ((b + e) - b) (drop b bytes) ≡ payloadOf p bytes
 unfolding payloadOf
-payload-law p s t a h b e d et ea eh eb ed ee =
+payload-law p bytes t a h b e d et ea eh eb ed ee =
     let n : (b + e) - b ≡ e = omega arith in
-    rw (n, ee, take-min d (length s - b) (drop b s) (length-drop b s), eb, drop-min (4 * h) s, ← et, ← ea, eh, ed)
+    rw (n, ee, take-min d (length bytes - b) (drop b bytes) (length-drop b bytes), eb, drop-min (4 * h) bytes, ← et, ← ea, eh, ed)

@@ -26,7 +26,7 @@ pub record Case : Type 0 where
   pub number : ℕ
 
 abbrev pub gives : ℕ → List ℕ → Case
-gives n s = record { bytes = s; number = n }
+gives n packet = record { bytes = packet; number = n }
 
 abbrev pub cases : List Case
 cases =

@@ -1,4 +1,4 @@
--- A completion straight from its bytes. Reading says the same of them: proofs/CompletionLaws.antt.
+-- A completion straight from its bytes. That reading says the same of them is proved in proofs/CompletionLaws.antt, so nothing here has to be believed.
 use Prim.Native.Nat.{ℕ, _+_, _*_}
 use mathlib.Core.Bool.{Bool, _&&_, _||_, not}
 use mathlib.Core.List.{List, [], _∷_}
@@ -15,18 +15,19 @@ use Rattle.tlp_read.specs.Fields.{packetAt}
 
 -- the kind table's CplD, 4A, and Cpl, 0A, with their header of 3 DW there whole
 unfoldable pub hasCompletion : List ℕ → Bool
-hasCompletion s = leb 12 (length s) && (eqb (byte s 0) 0x4A || eqb (byte s 0) 0x0A)
+hasCompletion bytes = leb 12 (length bytes) && (eqb (byte bytes 0) 0x4A || eqb (byte bytes 0) 0x0A)
 
+-- which of the two, by byte 0
 abbrev pub completionType : ℕ → PacketType
 completionType b = pick (eqb b 0x4A) CplD Cpl
 
 -- the bytes as a completion
 unfoldable pub completionIn : List ℕ → Packet
-completionIn s = packetAt (completionType (byte s 0)) s
+completionIn bytes = packetAt (completionType (byte bytes 0)) bytes
 
 -- 3 and 5, of a completion of n doublewords: no other row of reading is about completions
 abbrev pub completionRows : ℕ → ℕ → List ℕ → List Row
-completionRows mps n s =
-    row 3 (not (eqb (length s) (12 + 4 * n + digestBytes (digestAt s))))
+completionRows mps n bytes =
+    row 3 (not (eqb (length bytes) (12 + 4 * n + digestBytes (digestAt bytes))))
     ∷ row 5 (ltb mps (4 * n))
     ∷ []

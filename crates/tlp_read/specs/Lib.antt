@@ -2,3 +2,4 @@ pub mod Fields
 pub mod Read
 pub mod Completions
 pub mod Cases
+pub mod Inner

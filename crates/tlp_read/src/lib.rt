@@ -20,6 +20,7 @@ ghost use lib.ListN.{length};
 ghost use Rattle.tlp.specs.Rows.{first};
 ghost use Rattle.tlp_read.specs.Read.{readRows, readPacket, payloadOf};
 
+// What reading answers.
 pub enum ReadAnswer {
     Accepted(Packet),
     Refused(Refusal),
@@ -35,7 +36,7 @@ pub fn read_number(settings: Settings, bytes: &[u8]) -> u32
     if bytes.len() < 12 {
         return 1;
     }
-    rows::later_number(settings.mps, bytes)
+    rows::header_number(settings.mps, bytes)
 }
 
 // The packet in the bytes, or the first number that is given for them.

@@ -10,29 +10,31 @@ use lib.ListN.{length, getD, take, drop, set, length-append}
 use lib.Seq.{sets, sets-eq, length-sets}
 use borrow.Author.Tests.{eq-eqb, ne-eqb, eqb-true}
 use Rattle.bits.specs.Choice.{pick, flag}
-use Rattle.bits.specs.Field.{field, low, bit}
 use Rattle.bits.specs.Word.{byte, word, bytes}
 use Rattle.bits.specs.Put.{put}
+use Rattle.bits.proofs.ChoiceLaws.{pick-ap}
 use Rattle.bits.proofs.WordLaws.{AllBytes, bytes-word}
 use borrow.Rule.Slice.PartMut.{putMid}
-use Rattle.tlp.specs.PacketTypes.{typeAt, headerDw, hasData, familyOf, isUnlisted}
+use Rattle.tlp.specs.PacketTypes.{typeAt, packetTypeAt, headerDw, hasData, familyOf, isUnlisted}
 use Rattle.tlp.specs.Packets.{addressOf}
-use Rattle.tlp.specs.Sizes.{lengthAt, digestAt, orMost}
-use Rattle.tlp.specs.declared.packet.Implicit.the-variants.{Root, Broadcast, Local, Gathered}
-use Rattle.tlp.specs.declared.packet.Route.the-variants.{Address, Id, Implicit as Implied}
+use Rattle.tlp.specs.Sizes.{lengthAt, digestAt}
+use Rattle.tlp.specs.declared.packet.Implicit.{Implicit}
+use Rattle.tlp.specs.declared.packet.Route.the-variants.{Implicit as Implied}
 use Rattle.tlp.specs.declared.packet_type.Family.{Family}
 use Rattle.tlp.specs.declared.packet_type.Family.the-variants.{Memory, Io, Config, Message, Completion, Unlisted as NoFamily}
 use Rattle.tlp.specs.declared.packet_type.PacketType.{PacketType}
 use Rattle.tlp.proofs.FmtLaws.{each-type}
 use Rattle.tlp.proofs.FamilyLaws.{other, memory-types, io-types, config-types, message-types, completion-types}
-use Rattle.tlp_read.specs.Fields.{trafficClassAt, attributesAt, poisonedAt, digestWord, requestAt, configAt, messageAt, completionAt, addressAt, implicitAt, routingAt, messageRouteAt, routeAt, kindAt, packetAt}
+use Rattle.tlp_read.specs.Fields.{trafficClassAt, lowAttributesAt, allAttributesAt, attributesAt, poisonedAt, digestWord}
+use Rattle.tlp_read.specs.Fields.{requesterAt, tagAt, firstEnablesAt, lastEnablesAt, addressAt, routeIdAt, extendedRegisterAt, registerAt, codeAt, bodyAt, routingAt}
+use Rattle.tlp_read.specs.Fields.{completerAt, statusAt, byteCountModifiedAt, byteCountFieldAt, completionTagAt, lowerAddressFieldAt}
+use Rattle.tlp_read.specs.Fields.{requestAt, configAt, messageAt, completionAt, implicitAt, messageRouteAt, routeAt, kindAt, packetAt}
+use Rattle.tlp_read.specs.Inner.Rows.{familyAt, Listed, addressRead}
 use Rattle.tlp_read.proofs.ReadReturns.{address-wide, address-narrow}
 use Rattle.tlp_write.specs.Write.{overFront}
 use Rattle.tlp_write.proofs.PutLaws.{copied, put-front, put-next}
 use Rattle.tlp_record.specs.Record.{ownOf, routeCase, routeValue, sizesPart, recordOf}
-
-abbrev typeIn : List ℕ → PacketType
-typeIn s = typeAt (byte s 0)
+use Rattle.tlp_record_read.specs.Inner.Lay.{frontRead, dataFlag, kindRead, lengthGiven, messageFront, requestPart, countedPart, registersPart, statusPart, recordRead, recordLaid}
 
 -- ---- laying
 
@@ -92,85 +94,81 @@ all-laid a b c d e f z r s t o la lb lc ld le er es et eo =
 
 -- ---- the parts
 
-module _ (s : List ℕ) where
-  pub front-law : (k a r t c b1 b2 x y : ℕ) (g : Bool) (out o : List ℕ) → b2 ≡ byte s 2 → b1 ≡ byte s 1 → x ≡ flag (eqb (b2 / 64 % 2) 1) → g ≡ digestAt s → y ≡ flag g
-      → o ≡ put 0 (k ∷ b1 / 16 % 8 ∷ a ∷ x ∷ y ∷ r ∷ t ∷ c ∷ []) out → o ≡ put 0 (k ∷ trafficClassAt s ∷ a ∷ flag (poisonedAt s) ∷ flag (digestAt s) ∷ r ∷ t ∷ c ∷ []) out
-  front-law k a r t c b1 b2 x y g out o p q u v w e = e ∙ rw (u, w, v, p, q)
+pub counted-law : (m i d n : ℕ) (out x o : List ℕ) → x ≡ put 24 (sizesPart d n) out → o ≡ put 32 (countedPart m i) x → o ≡ put 32 (countedPart m i) (put 24 (sizesPart d n) out)
+counted-law m i d n out x o ex eo = eo ∙ rw ex
 
-  module _ (b : ℕ) (r : Bool) (eb : b ≡ byte s 0) (l : isUnlisted (familyOf (typeIn s)) ≡ false) (f : isUnlisted (familyOf (typeAt b)) ≡ false → r ≡ hasData (typeAt b)) where
-    data-is : r ≡ hasData (typeIn s)
+-- a message's case in a record, by its routing
+abbrev caseOf : ℕ → ℕ
+caseOf n = pick (eqb n 1) 0 (pick (eqb n 2) 1 (pick (eqb n 3) 3 (pick (eqb n 4) 4 (pick (eqb n 5) 5 2))))
+
+abbrev implicitCase : Implicit → ℕ
+implicitCase w = routeCase (Implied w)
+
+module _ (packet : List ℕ) where
+  pub front-law : (k a r t c tc x y : ℕ) (p g : Bool) (out o : List ℕ) → p ≡ poisonedAt packet → x ≡ flag p → g ≡ digestAt packet → y ≡ flag g → tc ≡ trafficClassAt packet
+      → o ≡ put 0 (k ∷ tc ∷ a ∷ x ∷ y ∷ r ∷ t ∷ c ∷ []) out → o ≡ put 0 (frontRead k a r t c packet) out
+  front-law k a r t c tc x y p g out o ep ex eg ey et e = e ∙ rw (ex, ep, ey, eg, et)
+
+  module _ (b : ℕ) (r : Bool) (eb : b ≡ byte packet 0) (l : Listed packet) (f : isUnlisted (familyOf (typeAt b)) ≡ false → r ≡ hasData (typeAt b)) where
+    data-is : r ≡ hasData (packetTypeAt packet)
     data-is = rw eb at f l
 
-    pub kind-law : (base x : ℕ) → x ≡ flag r → base + x ≡ base + flag (hasData (typeIn s))
+    pub kind-law : (base x : ℕ) → x ≡ flag r → base + x ≡ base + dataFlag packet
     kind-law base x e = rw (e, data-is)
 
-    pub length-some : (n : ℕ) → r ≡ true → n ≡ lengthAt s → n ≡ pick (hasData (typeIn s)) (lengthAt s) 0
+    pub length-some : (n : ℕ) → r ≡ true → n ≡ lengthAt packet → n ≡ lengthGiven packet
     length-some n q e = rw (← data-is, q) e
 
-    pub length-none : r ≡ false → 0 ≡ pick (hasData (typeIn s)) (lengthAt s) 0
+    pub length-none : r ≡ false → 0 ≡ lengthGiven packet
     length-none q = rw (← data-is, q)
 
-  pub request-law : (e w d n : ℕ) (out x o : List ℕ) → e ≡ byte s 7 → w ≡ word 2 s 4 → x ≡ put 24 (sizesPart d n) out
-      → o ≡ put 32 (bytes 4 0 ++ (bytes 2 w ++ (e % 16 ∷ e / 16 % 16 ∷ []))) x
-      → o ≡ put 32 (bytes 4 0 ++ (bytes 2 (word 2 s 4) ++ (low (byte s 7) 4 ∷ field (byte s 7) 4 4 ∷ []))) (put 24 (sizesPart d n) out)
-  request-law e w d n out x o ee ew ex eo = eo ∙ rw (ex, ee, ew)
+  pub request-law : (f l w d n : ℕ) (out x o : List ℕ) → f ≡ firstEnablesAt packet → l ≡ lastEnablesAt packet → w ≡ requesterAt packet → x ≡ put 24 (sizesPart d n) out
+      → o ≡ put 32 (bytes 4 0 ++ (bytes 2 w ++ (f ∷ l ∷ []))) x → o ≡ put 32 (requestPart packet) (put 24 (sizesPart d n) out)
+  request-law f l w d n out x o ef el ew ex eo = eo ∙ rw (ex, ef, el, ew)
 
-  pub counted-law : (m w d n : ℕ) (out x o : List ℕ) → w ≡ word 2 s 4 → x ≡ put 24 (sizesPart d n) out
-      → o ≡ put 32 (bytes 4 m ++ (bytes 2 w ++ (0 ∷ 0 ∷ []))) x
-      → o ≡ put 32 (bytes 4 m ++ (bytes 2 (word 2 s 4) ++ (0 ∷ 0 ∷ []))) (put 24 (sizesPart d n) out)
-  counted-law m w d n out x o ew ex eo = eo ∙ rw (ex, ew)
-
-  pub registers-law : (a b : ℕ) (out o : List ℕ) → a ≡ byte s 10 → b ≡ byte s 11 → o ≡ put 40 (a % 16 ∷ b / 4 % 64 ∷ 0 ∷ 0 ∷ 0 ∷ 0 ∷ 0 ∷ 0 ∷ []) out
-      → o ≡ put 40 (low (byte s 10) 4 ∷ field (byte s 11) 2 6 ∷ 0 ∷ 0 ∷ 0 ∷ 0 ∷ 0 ∷ 0 ∷ []) out
+  pub registers-law : (a b : ℕ) (out o : List ℕ) → a ≡ extendedRegisterAt packet → b ≡ registerAt packet → o ≡ put 40 (a ∷ b ∷ 0 ∷ 0 ∷ 0 ∷ 0 ∷ 0 ∷ 0 ∷ []) out
+      → o ≡ put 40 (registersPart packet) out
   registers-law a b out o p q e = e ∙ rw (p, q)
 
-  pub status-law : (a b x : ℕ) (out o : List ℕ) → a ≡ byte s 6 → x ≡ flag (eqb (a / 16 % 2) 1) → b ≡ byte s 11 → o ≡ put 40 (0 ∷ 0 ∷ a / 32 % 8 ∷ x ∷ b % 128 ∷ 0 ∷ 0 ∷ 0 ∷ []) out
-      → o ≡ put 40 (0 ∷ 0 ∷ field (byte s 6) 5 3 ∷ flag (bit (byte s 6) 4) ∷ low (byte s 11) 7 ∷ 0 ∷ 0 ∷ 0 ∷ []) out
-  status-law a b x out o p q r e = e ∙ rw (q, p, r)
-
-  pub count-of : (a b j n : ℕ) → a ≡ byte s 6 → b ≡ byte s 7 → j ≡ low a 4 * 256 + b → n ≡ orMost 4096 j → n ≡ orMost 4096 (low (byte s 6) 4 * 256 + byte s 7)
-  count-of a b j n p q r e = rw (← p, ← q, ← r) e
+  pub status-law : (a b x : ℕ) (m : Bool) (out o : List ℕ) → a ≡ statusAt packet → m ≡ byteCountModifiedAt packet → x ≡ flag m → b ≡ lowerAddressFieldAt packet
+      → o ≡ put 40 (0 ∷ 0 ∷ a ∷ x ∷ b ∷ 0 ∷ 0 ∷ 0 ∷ []) out → o ≡ put 40 (statusPart packet) out
+  status-law a b x m out o p q r u e = e ∙ rw (r, q, p, u)
 
   -- routes of messages
-  module _ (b : ℕ) (eb : b ≡ byte s 0) where
-    case-is : (n : ℕ) → b % 8 ≡ n → routeCase (messageRouteAt s) ≡ pick (eqb n 1) 0 (pick (eqb n 2) 1 (pick (eqb n 3) 3 (pick (eqb n 4) 4 (pick (eqb n 5) 5 2))))
+  module _ (r : ℕ) (er : r ≡ routingAt packet) where
+    case-is : routeCase (messageRouteAt packet) ≡ caseOf r
     unfolding messageRouteAt implicitAt
-    case-is n e = rw (← eb, e) (by (eqb n 1) (eqb n 2) (eqb n 3) (eqb n 4) (eqb n 5))
-      where
-        by : (x y z u v : Bool) → routeCase (pick x (Address (word 8 s 8)) (pick y (Id (word 2 s 8)) (Implied (pick z Broadcast (pick u Local (pick v Gathered Root)))))) ≡ pick x 0 (pick y 1 (pick z 3 (pick u 4 (pick v 5 2))))
-        by true y z u v = refl
-        by false true z u v = refl
-        by false false true u v = refl
-        by false false false true v = refl
-        by false false false false true = refl
-        by false false false false false = refl
+    case-is =
+        rw (← er)
+        (pick-ap routeCase (eqb r 1) _ _
+        ∙ ap (pick (eqb r 1) 0) (pick-ap routeCase (eqb r 2) _ _
+        ∙ ap (pick (eqb r 2) 1) (pick-ap implicitCase (eqb r 3) _ _
+        ∙ ap (pick (eqb r 3) 3) (pick-ap implicitCase (eqb r 4) _ _
+        ∙ ap (pick (eqb r 4) 4) (pick-ap implicitCase (eqb r 5) _ _)))))
 
-    pub case-law : (n m : ℕ) → b % 8 ≡ n → m ≡ pick (eqb n 1) 0 (pick (eqb n 2) 1 (pick (eqb n 3) 3 (pick (eqb n 4) 4 (pick (eqb n 5) 5 2)))) → m ≡ routeCase (messageRouteAt s)
-    case-law n m e q = q ∙ sym (case-is n e)
+    pub case-law : (n m : ℕ) → r ≡ n → m ≡ caseOf n → m ≡ routeCase (messageRouteAt packet)
+    case-law n m e q = q ∙ ap caseOf (sym e) ∙ sym case-is
 
-    pub case-rest : (b % 8 ≡ 1 → ⊥) → (b % 8 ≡ 2 → ⊥) → (b % 8 ≡ 3 → ⊥) → (b % 8 ≡ 4 → ⊥) → (b % 8 ≡ 5 → ⊥) → 2 ≡ routeCase (messageRouteAt s)
-    case-rest h1 h2 h3 h4 h5 =
-        sym (case-is (b % 8) refl ∙ rw (ne-eqb (b % 8) 1 h1, ne-eqb (b % 8) 2 h2, ne-eqb (b % 8) 3 h3, ne-eqb (b % 8) 4 h4, ne-eqb (b % 8) 5 h5))
+    pub case-rest : (r ≡ 1 → ⊥) → (r ≡ 2 → ⊥) → (r ≡ 3 → ⊥) → (r ≡ 4 → ⊥) → (r ≡ 5 → ⊥) → 2 ≡ routeCase (messageRouteAt packet)
+    case-rest h1 h2 h3 h4 h5 = sym (case-is ∙ rw (ne-eqb r 1 h1, ne-eqb r 2 h2, ne-eqb r 3 h3, ne-eqb r 4 h4, ne-eqb r 5 h5))
 
-    pub value-address : (w : ℕ) → 16 ≤ length s → b % 8 ≡ 1 → (8 + 8 ≤ length s → w ≡ word 8 s 8) → w ≡ routeValue (messageRouteAt s)
+    pub value-address : (w : ℕ) → 16 ≤ length packet → r ≡ 1 → (16 ≤ length packet → w ≡ bodyAt packet) → w ≡ routeValue (messageRouteAt packet)
     unfolding messageRouteAt
-    value-address w l h q = rw (← eb, h) (q l)
+    value-address w l h q = rw (← er, h) (q l)
 
-    pub value-id : (w : ℕ) → (b % 8 ≡ 1 → ⊥) → b % 8 ≡ 2 → w ≡ word 2 s 8 → w ≡ routeValue (messageRouteAt s)
+    pub value-id : (w : ℕ) → (r ≡ 1 → ⊥) → r ≡ 2 → w ≡ routeIdAt packet → w ≡ routeValue (messageRouteAt packet)
     unfolding messageRouteAt
-    value-id w g h q = rw (← eb, h) q
+    value-id w g h q = rw (← er, h) q
 
-    pub value-none : (b % 8 ≡ 1 → ⊥) → (b % 8 ≡ 2 → ⊥) → 0 ≡ routeValue (messageRouteAt s)
+    pub value-none : (r ≡ 1 → ⊥) → (r ≡ 2 → ⊥) → 0 ≡ routeValue (messageRouteAt packet)
     unfolding messageRouteAt
-    value-none g h = rw (← eb, ne-eqb (b % 8) 1 g, ne-eqb (b % 8) 2 h)
+    value-none g h = rw (← er, ne-eqb r 1 g, ne-eqb r 2 h)
 
 pub count-law : (n i f l : ℕ) (x y out o : List ℕ) → x ≡ bytes 4 n → y ≡ bytes 2 i
     → o ≡ put 32 (getD x 0 0 ∷ getD x 1 0 ∷ getD x 2 0 ∷ getD x 3 0 ∷ getD y 0 0 ∷ getD y 1 0 ∷ f ∷ l ∷ []) out → o ≡ put 32 (bytes 4 n ++ (bytes 2 i ++ (f ∷ l ∷ []))) out
 count-law n i f l x y out o e h q = q ∙ rw (e, h)
 
 pub ruleset length-laws = (length-some, length-none)
-
-pub ruleset case-laws = (case-law, case-rest)
 
 pub ruleset value-laws = (value-address, value-id, value-none)
 
@@ -179,9 +177,9 @@ pub ruleset value-laws = (value-address, value-id, value-none)
 pub family-listed : (t : PacketType) (g : Family) → familyOf t ≡ g → isUnlisted g ≡ false → isUnlisted (familyOf t) ≡ false
 family-listed t g e h = rw e h
 
-module _ (s : List ℕ) where
+module _ (packet : List ℕ) where
   abbrev ConfigKind : ℕ → PacketType → Type 0
-  ConfigKind b t = familyOf t ≡ Config → 5 + b % 2 * 2 + flag (hasData t) ≡ ownOf (kindAt t s) .kind
+  ConfigKind b t = familyOf t ≡ Config → 5 + b % 2 * 2 + flag (hasData t) ≡ ownOf (kindAt t packet) .kind
 
   config-kinds : (b : ℕ) → ConfigKind b (typeAt b)
   unfolding kindAt
@@ -190,102 +188,106 @@ module _ (s : List ℕ) where
       (other Memory Config refl) (other Memory Config refl) (other Memory Config refl) (other Memory Config refl) (other Io Config refl) (other Io Config refl) (λ _. refl) (λ _. refl) (λ _. refl) (λ _. refl)
       (λ _ _. other Message Config refl) (λ _ _. other Message Config refl) (other Completion Config refl) (other Completion Config refl) (other NoFamily Config refl)
 
-  pub config-kind-law : (b r : ℕ) → familyOf (typeIn s) ≡ Config → b ≡ byte s 0 → r ≡ 5 + b % 2 * 2 + flag (hasData (typeIn s)) → r ≡ ownOf (kindAt (typeIn s) s) .kind
-  config-kind-law b r h e q = rw e at q ∙ config-kinds (byte s 0) h
-
-  abbrev allAttributes : ℕ
-  allAttributes = field (byte s 1) 2 1 * 4 + field (byte s 2) 4 2
-
-  abbrev frontOf : ℕ → ℕ → ℕ → ℕ → ℕ → List ℕ
-  frontOf k a r t c = k ∷ trafficClassAt s ∷ a ∷ flag (poisonedAt s) ∷ flag (digestAt s) ∷ r ∷ t ∷ c ∷ []
-
-  abbrev requestCount : List ℕ
-  requestCount = bytes 4 0 ++ (bytes 2 (word 2 s 4) ++ (low (byte s 7) 4 ∷ field (byte s 7) 4 4 ∷ []))
+  pub config-kind-law : (b r : ℕ) → familyAt packet ≡ Config → b ≡ byte packet 0 → r ≡ 5 + b % 2 * 2 + dataFlag packet → r ≡ kindRead packet
+  config-kind-law b r h e q = rw e at q ∙ config-kinds (byte packet 0) h
 
   abbrev zeros : List ℕ
   zeros = 0 ∷ 0 ∷ 0 ∷ 0 ∷ 0 ∷ 0 ∷ 0 ∷ 0 ∷ []
 
-  abbrev joined : List ℕ → ℕ → ℕ → List ℕ → List ℕ → List ℕ → List ℕ
-  joined front value body sizes count end = front ++ (bytes 8 value ++ (bytes 8 body ++ (sizes ++ (count ++ end))))
+  abbrev sixParts : List ℕ → ℕ → ℕ → List ℕ → List ℕ → List ℕ → List ℕ
+  sixParts front value body sizes count end = front ++ (bytes 8 value ++ (bytes 8 body ++ (sizes ++ (count ++ end))))
 
-  abbrev lengthOf : PacketType → ℕ
-  lengthOf t = pick (hasData t) (lengthAt s) 0
+  -- digest and length of a type that has a length only with data
+  abbrev countedSizes : PacketType → List ℕ
+  countedSizes t = sizesPart (digestWord packet) (pick (hasData t) (lengthAt packet) 0)
+
+  abbrev requestSizes : List ℕ
+  requestSizes = sizesPart (digestWord packet) (lengthAt packet)
 
   abbrev MemoryRecord : PacketType → Type 0
-  MemoryRecord t = joined (frontOf (1 + flag (hasData t)) allAttributes 0 (byte s 6) 0) (addressOf (routeAt t s)) 0 (sizesPart (digestWord s) (lengthAt s)) requestCount zeros ≡ recordOf (packetAt t s)
+  MemoryRecord t =
+      sixParts (frontRead (1 + flag (hasData t)) (allAttributesAt packet) 0 (tagAt packet) 0 packet) (addressOf (routeAt t packet)) 0 requestSizes (requestPart packet) zeros
+      ≡ recordOf (packetAt t packet)
 
   memory-record : (t : PacketType) → familyOf t ≡ Memory → MemoryRecord t
   unfolding recordOf packetAt attributesAt routeAt kindAt requestAt
   memory-record = memory-types MemoryRecord refl refl refl refl
 
   abbrev IoRecord : PacketType → Type 0
-  IoRecord t = joined (frontOf (3 + flag (hasData t)) (field (byte s 2) 4 2) 0 (byte s 6) 0) (addressAt 4 s) 0 (sizesPart (digestWord s) (lengthAt s)) requestCount zeros ≡ recordOf (packetAt t s)
+  IoRecord t =
+      sixParts (frontRead (3 + flag (hasData t)) (lowAttributesAt packet) 0 (tagAt packet) 0 packet) (addressAt 4 packet) 0 requestSizes (requestPart packet) zeros
+      ≡ recordOf (packetAt t packet)
 
   io-record : (t : PacketType) → familyOf t ≡ Io → IoRecord t
   unfolding recordOf packetAt attributesAt routeAt kindAt requestAt
   io-record = io-types IoRecord (rw zero-add) (rw zero-add)
 
   abbrev ConfigRecord : PacketType → Type 0
-  ConfigRecord t = joined (frontOf (ownOf (kindAt t s) .kind) (field (byte s 2) 4 2) 1 (byte s 6) 0) (word 2 s 8) 0 (sizesPart (digestWord s) (lengthAt s)) requestCount (low (byte s 10) 4 ∷ field (byte s 11) 2 6 ∷ 0 ∷ 0 ∷ 0 ∷ 0 ∷ 0 ∷ 0 ∷ []) ≡ recordOf (packetAt t s)
+  ConfigRecord t =
+      sixParts (frontRead (ownOf (kindAt t packet) .kind) (lowAttributesAt packet) 1 (tagAt packet) 0 packet) (routeIdAt packet) 0 requestSizes (requestPart packet) (registersPart packet)
+      ≡ recordOf (packetAt t packet)
 
   config-record : (t : PacketType) → familyOf t ≡ Config → ConfigRecord t
   unfolding recordOf packetAt attributesAt routeAt kindAt configAt requestAt
   config-record = config-types ConfigRecord (rw zero-add) (rw zero-add) (rw zero-add) (rw zero-add)
 
   abbrev MessageRecord : PacketType → Type 0
-  MessageRecord t = joined (frontOf (9 + flag (hasData t)) allAttributes (routeCase (messageRouteAt s)) (byte s 6) (byte s 7)) (routeValue (messageRouteAt s)) (word 8 s 8) (sizesPart (digestWord s) (lengthOf t)) (bytes 4 0 ++ (bytes 2 (word 2 s 4) ++ (0 ∷ 0 ∷ []))) zeros ≡ recordOf (packetAt t s)
+  MessageRecord t =
+      sixParts (frontRead (9 + flag (hasData t)) (allAttributesAt packet) (routeCase (messageRouteAt packet)) (tagAt packet) (codeAt packet) packet) (routeValue (messageRouteAt packet))
+      (bodyAt packet) (countedSizes t) (countedPart 0 (requesterAt packet)) zeros
+      ≡ recordOf (packetAt t packet)
 
   message-record : (t : PacketType) → familyOf t ≡ Message → MessageRecord t
   unfolding recordOf packetAt attributesAt routeAt kindAt messageAt
   message-record = message-types MessageRecord refl refl
 
   abbrev CompletionRecord : PacketType → Type 0
-  CompletionRecord t = joined (frontOf (11 + flag (hasData t)) allAttributes 1 (byte s 10) 0) (word 2 s 8) 0 (sizesPart (digestWord s) (lengthOf t)) (bytes 4 (orMost 4096 (low (byte s 6) 4 * 256 + byte s 7)) ++ (bytes 2 (word 2 s 4) ++ (0 ∷ 0 ∷ []))) (0 ∷ 0 ∷ field (byte s 6) 5 3 ∷ flag (bit (byte s 6) 4) ∷ low (byte s 11) 7 ∷ 0 ∷ 0 ∷ 0 ∷ []) ≡ recordOf (packetAt t s)
+  CompletionRecord t =
+      sixParts (frontRead (11 + flag (hasData t)) (allAttributesAt packet) 1 (completionTagAt packet) 0 packet) (routeIdAt packet) 0 (countedSizes t)
+      (countedPart (byteCountFieldAt packet) (completerAt packet)) (statusPart packet)
+      ≡ recordOf (packetAt t packet)
 
   completion-record : (t : PacketType) → familyOf t ≡ Completion → CompletionRecord t
   unfolding recordOf packetAt attributesAt routeAt kindAt completionAt
   completion-record = completion-types CompletionRecord refl refl
 
-  pub message-front-law : (k a r t c : ℕ) (out o : List ℕ) → k ≡ 9 + flag (hasData (typeIn s)) → a ≡ allAttributes → r ≡ routeCase (messageRouteAt s) → t ≡ byte s 6 → c ≡ byte s 7 → o ≡ put 0 (frontOf k a r t c) out
-      → o ≡ put 0 (frontOf (9 + flag (hasData (typeIn s))) allAttributes (routeCase (messageRouteAt s)) (byte s 6) (byte s 7)) out
+  pub message-front-law : (k a r t c : ℕ) (out o : List ℕ) → k ≡ 9 + dataFlag packet → a ≡ allAttributesAt packet → r ≡ routeCase (messageRouteAt packet) → t ≡ tagAt packet → c ≡ codeAt packet
+      → o ≡ put 0 (frontRead k a r t c packet) out → o ≡ put 0 (messageFront packet) out
   message-front-law k a r t c out o ek ea er et ec q = q ∙ rw (ek, ea, er, et, ec)
 
   -- what was laid, of the parts that the calls gave
-  abbrev recordIn : List ℕ
-  recordIn = recordOf (packetAt (typeIn s) s)
-
-  module _ (k a r t c : ℕ) (out o x y z : List ℕ) (ex : x ≡ put 0 (frontOf k a r t c) out) (d n : ℕ) (ed : d ≡ digestWord s) where
+  module _ (k a r t c : ℕ) (out o x y z : List ℕ) (ex : x ≡ put 0 (frontRead k a r t c packet) out) (d n : ℕ) (ed : d ≡ digestWord packet) where
     laid : (v w : ℕ) (count end ys : List ℕ) → length count ≡ 8 → y ≡ put 16 (bytes 8 w) (put 8 (bytes 8 v) x) → z ≡ put 32 count (put 24 (sizesPart d n) y) → o ≡ put 40 end z
-        → joined (frontOf k a r t c) v w (sizesPart d n) count end ≡ ys → o ≡ overFront ys out
+        → sixParts (frontRead k a r t c packet) v w (sizesPart d n) count end ≡ ys → o ≡ overFront ys out
     laid v w count end ys l ey ez eo e =
-        all-laid (frontOf k a r t c) (bytes 8 v) (bytes 8 w) (sizesPart d n) count end out x y z o refl refl refl refl l ex ey ez eo ∙ ap (λ (l : List ℕ). overFront l out) e
+        all-laid (frontRead k a r t c packet) (bytes 8 v) (bytes 8 w) (sizesPart d n) count end out x y z o refl refl refl refl l ex ey ez eo ∙ ap (λ (l : List ℕ). overFront l out) e
 
-    pub memory-put : (u : List ℕ) → familyOf (typeIn s) ≡ Memory → n ≡ lengthAt s → k ≡ 1 + flag (hasData (typeIn s)) → a ≡ allAttributes → r ≡ 0 → t ≡ byte s 6 → c ≡ 0 → u ≡ put 8 (bytes 8 (addressOf (routeAt (typeIn s) s))) x → y ≡ put 16 zeros u
-        → z ≡ put 32 requestCount (put 24 (sizesPart d n) y) → o ≡ put 40 zeros z → o ≡ overFront recordIn out
+    pub memory-put : (u : List ℕ) → familyAt packet ≡ Memory → n ≡ lengthAt packet → k ≡ 1 + dataFlag packet → a ≡ allAttributesAt packet → r ≡ 0 → t ≡ tagAt packet → c ≡ 0
+        → u ≡ put 8 (bytes 8 (addressRead packet)) x → y ≡ put 16 zeros u → z ≡ put 32 (requestPart packet) (put 24 (sizesPart d n) y) → o ≡ put 40 zeros z → o ≡ recordLaid packet out
     memory-put u h en ek ea er et ec eu ey ez eo =
-        laid (addressOf (routeAt (typeIn s) s)) 0 requestCount zeros recordIn refl (ey ∙ ap (put 16 zeros) eu) ez eo (rw (ed, en, ek, ea, er, et, ec) (memory-record (typeIn s) h))
+        laid (addressRead packet) 0 (requestPart packet) zeros (recordRead packet) refl (ey ∙ ap (put 16 zeros) eu) ez eo (rw (ed, en, ek, ea, er, et, ec) (memory-record (packetTypeAt packet) h))
 
-    pub io-put : (w : ℕ) → familyOf (typeIn s) ≡ Io → n ≡ lengthAt s → k ≡ 3 + flag (hasData (typeIn s)) → a ≡ field (byte s 2) 4 2 → r ≡ 0 → t ≡ byte s 6 → c ≡ 0 → w ≡ word 4 s 8 → y ≡ put 16 (bytes 8 0) (put 8 (bytes 8 (w / 4 * 4)) x)
-        → z ≡ put 32 requestCount (put 24 (sizesPart d n) y) → o ≡ put 40 zeros z → o ≡ overFront recordIn out
-    io-put w h en ek ea er et ec ew ey ez eo = laid (w / 4 * 4) 0 requestCount zeros recordIn refl ey ez eo (rw (ed, en, ek, ea, er, et, ec, ew) (io-record (typeIn s) h))
+    pub io-put : (v : ℕ) → familyAt packet ≡ Io → n ≡ lengthAt packet → k ≡ 3 + dataFlag packet → a ≡ lowAttributesAt packet → r ≡ 0 → t ≡ tagAt packet → c ≡ 0 → v ≡ addressAt 4 packet
+        → y ≡ put 16 (bytes 8 0) (put 8 (bytes 8 v) x) → z ≡ put 32 (requestPart packet) (put 24 (sizesPart d n) y) → o ≡ put 40 zeros z → o ≡ recordLaid packet out
+    io-put v h en ek ea er et ec ev ey ez eo =
+        laid v 0 (requestPart packet) zeros (recordRead packet) refl ey ez eo (rw (ed, en, ek, ea, er, et, ec, ev) (io-record (packetTypeAt packet) h))
 
-    pub config-put : (v : ℕ) → familyOf (typeIn s) ≡ Config → n ≡ lengthAt s → k ≡ ownOf (kindAt (typeIn s) s) .kind → a ≡ field (byte s 2) 4 2 → r ≡ 1 → t ≡ byte s 6 → c ≡ 0 → v ≡ word 2 s 8 → y ≡ put 16 (bytes 8 0) (put 8 (bytes 8 v) x)
-        → z ≡ put 32 requestCount (put 24 (sizesPart d n) y) → o ≡ put 40 (low (byte s 10) 4 ∷ field (byte s 11) 2 6 ∷ 0 ∷ 0 ∷ 0 ∷ 0 ∷ 0 ∷ 0 ∷ []) z → o ≡ overFront recordIn out
+    pub config-put : (v : ℕ) → familyAt packet ≡ Config → n ≡ lengthAt packet → k ≡ kindRead packet → a ≡ lowAttributesAt packet → r ≡ 1 → t ≡ tagAt packet → c ≡ 0 → v ≡ routeIdAt packet
+        → y ≡ put 16 (bytes 8 0) (put 8 (bytes 8 v) x) → z ≡ put 32 (requestPart packet) (put 24 (sizesPart d n) y) → o ≡ put 40 (registersPart packet) z → o ≡ recordLaid packet out
     config-put v h en ek ea er et ec ev ey ez eo =
-        laid v 0 requestCount (low (byte s 10) 4 ∷ field (byte s 11) 2 6 ∷ 0 ∷ 0 ∷ 0 ∷ 0 ∷ 0 ∷ 0 ∷ []) recordIn refl ey ez eo (rw (ed, en, ek, ea, er, et, ec, ev) (config-record (typeIn s) h))
+        laid v 0 (requestPart packet) (registersPart packet) (recordRead packet) refl ey ez eo (rw (ed, en, ek, ea, er, et, ec, ev) (config-record (packetTypeAt packet) h))
 
-    pub completion-put : (v m : ℕ) → familyOf (typeIn s) ≡ Completion → n ≡ lengthOf (typeIn s) → k ≡ 11 + flag (hasData (typeIn s)) → a ≡ allAttributes → r ≡ 1 → t ≡ byte s 10 → c ≡ 0 → v ≡ word 2 s 8 → y ≡ put 16 (bytes 8 0) (put 8 (bytes 8 v) x)
-        → m ≡ orMost 4096 (low (byte s 6) 4 * 256 + byte s 7) → z ≡ put 32 (bytes 4 m ++ (bytes 2 (word 2 s 4) ++ (0 ∷ 0 ∷ []))) (put 24 (sizesPart d n) y)
-        → o ≡ put 40 (0 ∷ 0 ∷ field (byte s 6) 5 3 ∷ flag (bit (byte s 6) 4) ∷ low (byte s 11) 7 ∷ 0 ∷ 0 ∷ 0 ∷ []) z → o ≡ overFront recordIn out
-    completion-put v m h en ek ea er et ec ev ey em ez eo =
-        laid v 0 (bytes 4 m ++ (bytes 2 (word 2 s 4) ++ (0 ∷ 0 ∷ []))) (0 ∷ 0 ∷ field (byte s 6) 5 3 ∷ flag (bit (byte s 6) 4) ∷ low (byte s 11) 7 ∷ 0 ∷ 0 ∷ 0 ∷ []) recordIn refl ey ez eo
-        (rw (ed, en, ek, ea, er, et, ec, ev, em) (completion-record (typeIn s) h))
+    pub completion-put : (v m i : ℕ) → familyAt packet ≡ Completion → n ≡ lengthGiven packet → k ≡ 11 + dataFlag packet → a ≡ allAttributesAt packet → r ≡ 1 → t ≡ completionTagAt packet → c ≡ 0
+        → v ≡ routeIdAt packet → y ≡ put 16 (bytes 8 0) (put 8 (bytes 8 v) x) → m ≡ byteCountFieldAt packet → i ≡ completerAt packet
+        → z ≡ put 32 (countedPart m i) (put 24 (sizesPart d n) y) → o ≡ put 40 (statusPart packet) z → o ≡ recordLaid packet out
+    completion-put v m i h en ek ea er et ec ev ey em ei ez eo =
+        laid v 0 (countedPart m i) (statusPart packet) (recordRead packet) refl ey ez eo (rw (ed, en, ek, ea, er, et, ec, ev, em, ei) (completion-record (packetTypeAt packet) h))
 
-    pub message-put : (v w : ℕ) → familyOf (typeIn s) ≡ Message → n ≡ lengthOf (typeIn s) → 16 ≤ length s → k ≡ 9 + flag (hasData (typeIn s)) → a ≡ allAttributes → r ≡ routeCase (messageRouteAt s) → t ≡ byte s 6 → c ≡ byte s 7 → v ≡ routeValue (messageRouteAt s)
-        → (8 + 8 ≤ length s → w ≡ word 8 s 8) → y ≡ put 16 (bytes 8 w) (put 8 (bytes 8 v) x) → z ≡ put 32 (bytes 4 0 ++ (bytes 2 (word 2 s 4) ++ (0 ∷ 0 ∷ []))) (put 24 (sizesPart d n) y)
-        → o ≡ put 40 zeros z → o ≡ overFront recordIn out
-    message-put v w h en l ek ea er et ec ev ew ey ez eo =
-        laid v w (bytes 4 0 ++ (bytes 2 (word 2 s 4) ++ (0 ∷ 0 ∷ []))) zeros recordIn refl ey ez eo (rw (ed, en, ek, ea, er, et, ec, ev, ew l) (message-record (typeIn s) h))
+    pub message-put : (v w i : ℕ) → familyAt packet ≡ Message → n ≡ lengthGiven packet → 16 ≤ length packet → k ≡ 9 + dataFlag packet → a ≡ allAttributesAt packet
+        → r ≡ routeCase (messageRouteAt packet) → t ≡ tagAt packet → c ≡ codeAt packet → v ≡ routeValue (messageRouteAt packet) → (16 ≤ length packet → w ≡ bodyAt packet)
+        → y ≡ put 16 (bytes 8 w) (put 8 (bytes 8 v) x) → i ≡ requesterAt packet → z ≡ put 32 (countedPart 0 i) (put 24 (sizesPart d n) y) → o ≡ put 40 zeros z → o ≡ recordLaid packet out
+    message-put v w i h en l ek ea er et ec ev ew ey ei ez eo =
+        laid v w (countedPart 0 i) zeros (recordRead packet) refl ey ez eo (rw (ed, en, ek, ea, er, et, ec, ev, ew l, ei) (message-record (packetTypeAt packet) h))
 
 -- ---- addresses
 
@@ -309,28 +311,28 @@ pub bare-laid : (a b c d e f g h : ℕ) (out o : List ℕ) → a < 256 → b < 2
     → o ≡ put 8 (bytes 8 (word 8 (a ∷ b ∷ c ∷ d ∷ e ∷ f ∷ g ∷ h ∷ []) 0 / 4 * 4)) out
 bare-laid a b c d e f g h out o ha hb hc hd he hf hg hh q = q ∙ ap (λ (l : List ℕ). put 8 l out) (address-of a b c d e f g h ha hb hc hd he hf hg hh)
 
-module _ (s : List ℕ) where
-  pub four-laid : (out o : List ℕ) → o ≡ put 8 (bytes 8 (word 8 (0 ∷ 0 ∷ 0 ∷ 0 ∷ byte s 8 ∷ byte s 9 ∷ byte s 10 ∷ byte s 11 ∷ []) 0 / 4 * 4)) out → o ≡ put 8 (bytes 8 (addressAt 4 s)) out
+module _ (packet : List ℕ) where
+  pub four-laid : (out o : List ℕ) → o ≡ put 8 (bytes 8 (word 8 (0 ∷ 0 ∷ 0 ∷ 0 ∷ byte packet 8 ∷ byte packet 9 ∷ byte packet 10 ∷ byte packet 11 ∷ []) 0 / 4 * 4)) out → o ≡ put 8 (bytes 8 (addressAt 4 packet)) out
   four-laid out o q =
-      let e : word 8 (0 ∷ 0 ∷ 0 ∷ 0 ∷ byte s 8 ∷ byte s 9 ∷ byte s 10 ∷ byte s 11 ∷ []) 0 ≡ word 4 s 8 = omega arith in
+      let e : word 8 (0 ∷ 0 ∷ 0 ∷ 0 ∷ byte packet 8 ∷ byte packet 9 ∷ byte packet 10 ∷ byte packet 11 ∷ []) 0 ≡ word 4 packet 8 = omega arith in
       q ∙ ap (λ (x : ℕ). put 8 (bytes 8 (x / 4 * 4)) out) e
 
-  module _ (h : familyOf (typeIn s) ≡ Memory) (room : 4 * headerDw (typeIn s) ≤ length s) where
-    pub narrow-room : 12 ≤ length s
-    narrow-room = let k : 12 ≤ 4 * headerDw (typeIn s) = memory-types (λ t. 12 ≤ 4 * headerDw t) (omega arith) (omega arith) (omega arith) (omega arith) (typeIn s) h in omega (arith, k, room)
+  module _ (h : familyOf (packetTypeAt packet) ≡ Memory) (room : 4 * headerDw (packetTypeAt packet) ≤ length packet) where
+    pub narrow-room : 12 ≤ length packet
+    narrow-room = let k : 12 ≤ 4 * headerDw (packetTypeAt packet) = memory-types (λ t. 12 ≤ 4 * headerDw t) (omega arith) (omega arith) (omega arith) (omega arith) (packetTypeAt packet) h in omega (arith, k, room)
 
-    module _ (b : ℕ) (eb : b ≡ byte s 0) (r : Bool) (f : isUnlisted (familyOf (typeAt b)) ≡ false → r ≡ eqb (headerDw (typeAt b)) 4) where
-      pub wide-room : r ≡ true → 16 ≤ length s
+    module _ (b : ℕ) (eb : b ≡ byte packet 0) (r : Bool) (f : isUnlisted (familyOf (typeAt b)) ≡ false → r ≡ eqb (headerDw (typeAt b)) 4) where
+      pub wide-room : r ≡ true → 16 ≤ length packet
       wide-room q =
-          let g : r ≡ eqb (headerDw (typeIn s)) 4 = rw eb at f (rw h) in
-          let k = eqb-true (headerDw (typeIn s)) 4 (sym g ∙ q) in
+          let g : r ≡ eqb (headerDw (packetTypeAt packet)) 4 = rw eb at f (rw h) in
+          let k = eqb-true (headerDw (packetTypeAt packet)) 4 (sym g ∙ q) in
           omega (arith, k, room)
 
-      pub wide-laid : (out o : List ℕ) → r ≡ true → o ≡ put 8 (bytes 8 (addressAt 8 s)) out → o ≡ put 8 (bytes 8 (addressOf (routeAt (typeIn s) s))) out
-      wide-laid out o q eo = eo ∙ ap (λ (x : ℕ). put 8 (bytes 8 x) out) (address-wide s b eb r f (word 8 s 8) q (λ _. refl) h room)
+      pub wide-laid : (out o : List ℕ) → r ≡ true → o ≡ put 8 (bytes 8 (addressAt 8 packet)) out → o ≡ put 8 (bytes 8 (addressOf (routeAt (packetTypeAt packet) packet))) out
+      wide-laid out o q eo = eo ∙ ap (λ (x : ℕ). put 8 (bytes 8 x) out) (address-wide packet b eb r f (word 8 packet 8) q (λ _. refl) h room)
 
-      pub narrow-laid : (out o : List ℕ) → r ≡ false → o ≡ put 8 (bytes 8 (addressAt 4 s)) out → o ≡ put 8 (bytes 8 (addressOf (routeAt (typeIn s) s))) out
-      narrow-laid out o q eo = eo ∙ ap (λ (x : ℕ). put 8 (bytes 8 x) out) (address-narrow s b eb r f (addressAt 4 s) q refl h room)
+      pub narrow-laid : (out o : List ℕ) → r ≡ false → o ≡ put 8 (bytes 8 (addressAt 4 packet)) out → o ≡ put 8 (bytes 8 (addressOf (routeAt (packetTypeAt packet) packet))) out
+      narrow-laid out o q eo = eo ∙ ap (λ (x : ℕ). put 8 (bytes 8 x) out) (address-narrow packet b eb r f (addressAt 4 packet) q refl h room)
 
 pub message-room : (t : PacketType) (n : ℕ) → familyOf t ≡ Message → 4 * headerDw t ≤ n → 16 ≤ n
 message-room t n h l = let k : headerDw t ≡ 4 = message-types (λ t. headerDw t ≡ 4) refl refl t h in omega (arith, k, l)

@@ -39,46 +39,46 @@ refused-record : (n : ℕ) (p : Packet) (out : List ℕ) → (n ≡ 0 → ⊥) �
 refused-record zero p out h = absurd (h refl)
 refused-record (suc n) p out h = refl
 
-module _ (c : Settings) (s : List ℕ) (n : ℕ) (e : n ≡ first (readRows c s)) where
-  pub read-refused-number : (room : ℕ) → (n ≡ 0 → ⊥) → n ≡ readNumber (readPacket c s) room
+module _ (settings : Settings) (packet : List ℕ) (n : ℕ) (e : n ≡ first (readRows settings packet)) where
+  pub read-refused-number : (room : ℕ) → (n ≡ 0 → ⊥) → n ≡ readNumber (readPacket settings packet) room
   unfolding readPacket
   read-refused-number room h = rw (← e) (refused-number n _ room h)
 
-  pub read-refused-record : (out : List ℕ) → (n ≡ 0 → ⊥) → out ≡ readRecord (readPacket c s) out
+  pub read-refused-record : (out : List ℕ) → (n ≡ 0 → ⊥) → out ≡ readRecord (readPacket settings packet) out
   unfolding readPacket
   read-refused-record out h = rw (← e) (refused-record n _ out h)
 
   module _ (z : n ≡ 0) where
-    pub read-short-number : (room : ℕ) → room < 48 → 12 ≡ readNumber (readPacket c s) room
+    pub read-short-number : (room : ℕ) → room < 48 → 12 ≡ readNumber (readPacket settings packet) room
     unfolding readPacket
     read-short-number room l = rw (← e, z, lt-ltb room 48 l)
 
-    pub read-short-record : (out : List ℕ) → length out < 48 → out ≡ readRecord (readPacket c s) out
+    pub read-short-record : (out : List ℕ) → length out < 48 → out ≡ readRecord (readPacket settings packet) out
     unfolding readPacket
     read-short-record out l = rw (← e, z, lt-ltb (length out) 48 l)
 
-    pub read-laid-number : (room : ℕ) → 48 ≤ room → 0 ≡ readNumber (readPacket c s) room
+    pub read-laid-number : (room : ℕ) → 48 ≤ room → 0 ≡ readNumber (readPacket settings packet) room
     unfolding readPacket
     read-laid-number room l = rw (← e, z, le-ltb room 48 l)
 
-    pub read-laid-record : (out o : List ℕ) → 48 ≤ length out → o ≡ overFront (recordOf (packetAt (typeAt (byte s 0)) s)) out → o ≡ readRecord (readPacket c s) out
+    pub read-laid-record : (out o : List ℕ) → 48 ≤ length out → o ≡ overFront (recordOf (packetAt (typeAt (byte packet 0)) packet)) out → o ≡ readRecord (readPacket settings packet) out
     unfolding readPacket
     read-laid-record out o l q = rw (← e, z, le-ltb (length out) 48 l) q
 
-    rows-clear : NoneHold (readRows c s)
-    rows-clear = first-none (readRows c s) refl (sym e ∙ z)
+    rows-clear : NoneHold (readRows settings packet)
+    rows-clear = first-none (readRows settings packet) refl (sym e ∙ z)
 
-    module _ (b : ℕ) (f : Family) (eb : b ≡ byte s 0) (ef : isUnlisted (familyOf (typeAt b)) ≡ false → f ≡ familyOf (typeAt b)) where
-      pub read-family : f ≡ familyOf (typeAt (byte s 0))
+    module _ (b : ℕ) (f : Family) (eb : b ≡ byte packet 0) (ef : isUnlisted (familyOf (typeAt b)) ≡ false → f ≡ familyOf (typeAt b)) where
+      pub read-family : f ≡ familyOf (typeAt (byte packet 0))
       read-family = rw eb at ef (rows-clear .1 .1 .0)
 
       pub read-listed : isUnlisted f ≡ false
       read-listed = rw read-family (rows-clear .1 .1 .0)
 
-    pub read-room : 4 * headerDw (typeAt (byte s 0)) ≤ length s
+    pub read-room : 4 * headerDw (typeAt (byte packet 0)) ≤ length packet
     read-room =
-        let l = ltb-false (length s) 12 (rows-clear .1 .0) in
-        let k = fmt-law (byte s 0) (rows-clear .1 .1 .0) .0 in
-        whole-header (headerDw (typeAt (byte s 0))) (length s) (omega (arith, k)) l (rows-clear .1 .1 .1 .0)
+        let l = ltb-false (length packet) 12 (rows-clear .1 .0) in
+        let k = fmt-law (byte packet 0) (rows-clear .1 .1 .0) .0 in
+        whole-header (headerDw (typeAt (byte packet 0))) (length packet) (omega (arith, k)) l (rows-clear .1 .1 .1 .0)
 
 pub ruleset read-laws = (read-refused-number, read-refused-record, read-short-number, read-short-record, read-laid-number, read-laid-record)

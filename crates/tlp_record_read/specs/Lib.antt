@@ -1,1 +1,2 @@
 pub mod RecordRead
+pub mod Inner

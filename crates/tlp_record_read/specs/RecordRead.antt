@@ -1,4 +1,4 @@
--- Reading a packet into a record: as the reader, and last 12 where the record is too short.
+-- Reading a packet into a record: as the reader, and last 12 where the record is too short. All to be believed.
 use Prim.Native.Nat.{ℕ}
 use mathlib.Core.List.{List}
 use lib.Dec.{ltb}

@@ -4,30 +4,44 @@ use bits::word::byte_at;
 use bits::word::bytes16;
 use bits::word::bytes32;
 use bits::word::bytes64;
-use bits::word::whole64;
-use bits::word::word16;
-use bits::word::word32;
 use tlp::packet_type::Family;
 use tlp::packet_type::data_follows;
 use tlp::packet_type::is_wide;
 use tlp::size::digest_at;
 use tlp::size::length_at;
-use tlp::size::or_most;
+use tlp_read::fields::address32_at;
+use tlp_read::fields::all_attributes_at;
+use tlp_read::fields::byte_count_field_at;
+use tlp_read::fields::byte_count_modified_at;
+use tlp_read::fields::code_at;
+use tlp_read::fields::completer_at;
+use tlp_read::fields::completion_tag_at;
+use tlp_read::fields::extended_register_at;
+use tlp_read::fields::first_enables_at;
+use tlp_read::fields::last_enables_at;
+use tlp_read::fields::low_attributes_at;
+use tlp_read::fields::lower_address_field_at;
+use tlp_read::fields::poisoned_at;
+use tlp_read::fields::register_at;
+use tlp_read::fields::requester_at;
+use tlp_read::fields::route_id_at;
+use tlp_read::fields::routing_at;
+use tlp_read::fields::status_at;
+use tlp_read::fields::tag_at;
+use tlp_read::fields::traffic_class_at;
+use tlp_read::fields::whole_body_at;
 ghost use mathlib.Core.Path.{_≡_};
 ghost use mathlib.Core.Bool.{false};
 ghost use mathlib.Core.List.{List, [], _∷_, _++_};
 ghost use Prim.Native.Nat.{ℕ, _+_, _*_, _/_, _≤_};
-ghost use lib.ListN.{length, drop};
-ghost use Rattle.bits.specs.Choice.{pick, flag};
-ghost use Rattle.bits.specs.Field.{field, low, bit};
-ghost use Rattle.bits.specs.Word.{byte, word, bytes};
+ghost use lib.ListN.{length};
+ghost use Rattle.bits.specs.Word.{word, bytes};
 ghost use Rattle.bits.specs.Put.{put};
-ghost use Rattle.tlp.specs.PacketTypes.{typeAt, headerDw, hasData, familyOf, isUnlisted};
-ghost use Rattle.tlp.specs.Packets.{addressOf};
-ghost use Rattle.tlp.specs.Sizes.{lengthAt, digestAt, orMost};
-ghost use Rattle.tlp_read.specs.Fields.{trafficClassAt, poisonedAt, digestWord, addressAt, messageRouteAt, routeAt, kindAt, packetAt};
-ghost use Rattle.tlp_write.specs.Write.{overFront};
-ghost use Rattle.tlp_record.specs.Record.{ownOf, routeCase, routeValue, recordOf, sizesPart};
+ghost use Rattle.tlp.specs.PacketTypes.{isUnlisted};
+ghost use Rattle.tlp_read.specs.Fields.{digestWord, addressAt, messageRouteAt};
+ghost use Rattle.tlp_read.specs.Inner.Rows.{familyAt, Listed, HeaderThere, addressRead};
+ghost use Rattle.tlp_record.specs.Record.{routeCase, routeValue, sizesPart};
+ghost use Rattle.tlp_record_read.specs.Inner.Lay.{Room, frontRead, dataFlag, kindRead, lengthGiven, messageFront, requestPart, countedPart, registersPart, statusPart, recordLaid};
 
 // Lays eight bytes over a record from index at on.
 fn lay(at: usize, part: [u8; 8], record: &mut [u8])
@@ -61,24 +75,27 @@ fn lay_number(at: usize, n: u32, record: &mut [u8])
     bytes::copy(&part, &mut record[at..]);
 }
 
+// The route's value, and a message's body.
 fn lay_value(value: u64, body: u64, record: &mut [u8])
-    requires { ⌜ 48 ≤ length (now «record») ⌝ }
+    requires { ⌜ Room (now «record») ⌝ }
     ensures { λ _. ⌜ now («record» .exit) ≡ put 16 (bytes 8 body) (put 8 (bytes 8 value) (now («record» .entry))) ⌝ }
 {
     lay(8, bytes64(value), record);
     lay(16, bytes64(body), record);
 }
 
+// Digest and length.
 fn lay_sizes(digest: u32, n: u32, record: &mut [u8])
-    requires { ⌜ 48 ≤ length (now «record») ⌝ }
+    requires { ⌜ Room (now «record») ⌝ }
     ensures { λ _. ⌜ now («record» .exit) ≡ put 24 (sizesPart digest n) (now («record» .entry)) ⌝ }
 {
     lay_number(24, digest, record);
     lay_number(28, n, record);
 }
 
+// Byte count, the sender's ID and the enables.
 fn lay_count(count: u32, id: u16, first: u8, last: u8, record: &mut [u8])
-    requires { ⌜ 48 ≤ length (now «record») ⌝ }
+    requires { ⌜ Room (now «record») ⌝ }
     ensures { λ _. ⌜ now («record» .exit) ≡ put 32 (bytes 4 count ++ (bytes 2 id ++ (first ∷ last ∷ []))) (now («record» .entry)) ⌝ }
 {
     let x = bytes32(count);
@@ -88,18 +105,25 @@ fn lay_count(count: u32, id: u16, first: u8, last: u8, record: &mut [u8])
 
 // ---- the parts, from the bytes
 
-fn lay_front(kind: u8, attributes: u8, route: u8, tag: u8, code: u8, s: &[u8], record: &mut [u8])
-    requires { ⌜ 48 ≤ length (now «record») ⌝ }
-    ensures { λ _. ⌜ now («record» .exit) ≡ put 0 (kind ∷ trafficClassAt (now (s .entry)) ∷ attributes ∷ flag (poisonedAt (now (s .entry))) ∷ flag (digestAt (now (s .entry))) ∷ route ∷ tag ∷ code ∷ []) (now («record» .entry)) ⌝ }
+// Kind to code, the first eight bytes.
+fn lay_front(
+    kind: u8,
+    attributes: u8,
+    route: u8,
+    tag: u8,
+    code: u8,
+    packet: &[u8],
+    record: &mut [u8],
+)
+    requires { ⌜ Room (now «record») ⌝ }
+    ensures { λ _. ⌜ now («record» .exit) ≡ put 0 (frontRead kind attributes route tag code (now (packet .entry))) (now («record» .entry)) ⌝ }
 {
-    let b1 = byte_at(s, 1);
-    let b2 = byte_at(s, 2);
-    let poisoned = flag_of(b2 / 64 % 2 == 1);
-    let digest = flag_of(digest_at(s));
+    let poisoned = flag_of(poisoned_at(packet));
+    let digest = flag_of(digest_at(packet));
     lay_bytes(
         0,
         kind,
-        b1 / 16 % 8,
+        traffic_class_at(packet),
         attributes,
         poisoned,
         digest,
@@ -110,174 +134,183 @@ fn lay_front(kind: u8, attributes: u8, route: u8, tag: u8, code: u8, s: &[u8], r
     );
 }
 
-// Attr[2] is reserved in I/O and configuration.
-fn low_attributes(s: &[u8]) -> u8
-    ensures { λ r. ⌜ r ≡ field (byte (now (s .entry)) 2) 4 2 ⌝ }
-{
-    byte_at(s, 2) / 16 % 4
-}
-
-fn all_attributes(s: &[u8]) -> u8
-    ensures { λ r. ⌜ r ≡ field (byte (now (s .entry)) 1) 2 1 * 4 + field (byte (now (s .entry)) 2) 4 2 ⌝ }
-{
-    byte_at(s, 1) / 4 % 2 * 4 + byte_at(s, 2) / 16 % 4
-}
-
 // Kinds with data come after those without.
-fn kind_from(base: u8, s: &[u8]) -> u8
+fn kind_from(base: u8, packet: &[u8]) -> u8
     requires { ⌜ base ≤ 11 ⌝ }
-    requires { ⌜ isUnlisted (familyOf (typeAt (byte (now s) 0))) ≡ false ⌝ }
-    ensures { λ r. ⌜ r ≡ base + flag (hasData (typeAt (byte (now (s .entry)) 0))) ⌝ }
+    requires { ⌜ Listed (now packet) ⌝ }
+    ensures { λ r. ⌜ r ≡ base + dataFlag (now (packet .entry)) ⌝ }
 {
-    base + flag_of(data_follows(byte_at(s, 0)))
+    base + flag_of(data_follows(byte_at(packet, 0)))
 }
 
 // Digest and length, then requester and enables.
-fn lay_request(digest: u32, n: u32, s: &[u8], record: &mut [u8])
-    requires { ⌜ 48 ≤ length (now «record») ⌝ }
-    ensures { λ _. ⌜ now («record» .exit) ≡ put 32 (bytes 4 0 ++ (bytes 2 (word 2 (now (s .entry)) 4) ++ (low (byte (now (s .entry)) 7) 4 ∷ field (byte (now (s .entry)) 7) 4 4 ∷ []))) (put 24 (sizesPart digest n) (now («record» .entry))) ⌝ }
+fn lay_request(digest: u32, n: u32, packet: &[u8], record: &mut [u8])
+    requires { ⌜ Room (now «record») ⌝ }
+    ensures { λ _. ⌜ now («record» .exit) ≡ put 32 (requestPart (now (packet .entry))) (put 24 (sizesPart digest n) (now («record» .entry))) ⌝ }
 {
-    let enables = byte_at(s, 7);
+    let first = first_enables_at(packet);
+    let last = last_enables_at(packet);
     lay_sizes(digest, n, record);
-    lay_count(0, word16(s, 4), enables % 16, enables / 16 % 16, record);
+    lay_count(0, requester_at(packet), first, last, record);
 }
 
 // ---- the families
 
 // The bytes of an address, its two low bits left out: no number is made of them.
 fn lay_bare(a: u8, b: u8, c: u8, d: u8, e: u8, f: u8, g: u8, h: u8, record: &mut [u8])
-    requires { ⌜ 48 ≤ length (now «record») ⌝ }
+    requires { ⌜ Room (now «record») ⌝ }
     ensures { λ _. ⌜ now («record» .exit) ≡ put 8 (bytes 8 (word 8 (a ∷ b ∷ c ∷ d ∷ e ∷ f ∷ g ∷ h ∷ []) 0 / 4 * 4)) (now («record» .entry)) ⌝ }
 {
     lay_bytes(8, a, b, c, d, e, f, g, h / 4 * 4, record);
 }
 
-fn lay_wide(s: &[u8], record: &mut [u8])
-    requires { ⌜ 16 ≤ length (now s) ⌝ }
-    requires { ⌜ 48 ≤ length (now «record») ⌝ }
-    ensures { λ _. ⌜ now («record» .exit) ≡ put 8 (bytes 8 (addressAt 8 (now (s .entry)))) (now («record» .entry)) ⌝ }
+fn lay_wide(packet: &[u8], record: &mut [u8])
+    requires { ⌜ 16 ≤ length (now packet) ⌝ }
+    requires { ⌜ Room (now «record») ⌝ }
+    ensures { λ _. ⌜ now («record» .exit) ≡ put 8 (bytes 8 (addressAt 8 (now (packet .entry)))) (now («record» .entry)) ⌝ }
 {
-    lay_bare(s[8], s[9], s[10], s[11], s[12], s[13], s[14], s[15], record);
-}
-
-fn lay_narrow(s: &[u8], record: &mut [u8])
-    requires { ⌜ 12 ≤ length (now s) ⌝ }
-    requires { ⌜ 48 ≤ length (now «record») ⌝ }
-    ensures { λ _. ⌜ now («record» .exit) ≡ put 8 (bytes 8 (addressAt 4 (now (s .entry)))) (now («record» .entry)) ⌝ }
-{
-    lay_bare(0, 0, 0, 0, s[8], s[9], s[10], s[11], record);
-}
-
-fn lay_address(s: &[u8], record: &mut [u8])
-    requires { ⌜ familyOf (typeAt (byte (now s) 0)) ≡ Family.Memory ⌝ }
-    requires { ⌜ 4 * headerDw (typeAt (byte (now s) 0)) ≤ length (now s) ⌝ }
-    requires { ⌜ 48 ≤ length (now «record») ⌝ }
-    ensures { λ _. ⌜ now («record» .exit) ≡ put 8 (bytes 8 (addressOf (routeAt (typeAt (byte (now (s .entry)) 0)) (now (s .entry))))) (now («record» .entry)) ⌝ }
-{
-    if is_wide(byte_at(s, 0)) {
-        lay_wide(s, record);
-        return;
-    }
-    lay_narrow(s, record);
-}
-
-fn put_memory(digest: u32, s: &[u8], record: &mut [u8])
-    requires { ⌜ digest ≡ digestWord (now s) ⌝ }
-    requires { ⌜ familyOf (typeAt (byte (now s) 0)) ≡ Family.Memory ⌝ }
-    requires { ⌜ 4 * headerDw (typeAt (byte (now s) 0)) ≤ length (now s) ⌝ }
-    requires { ⌜ 48 ≤ length (now «record») ⌝ }
-    ensures { λ _. ⌜ now («record» .exit) ≡ overFront (recordOf (packetAt (typeAt (byte (now (s .entry)) 0)) (now (s .entry)))) (now («record» .entry)) ⌝ }
-{
-    let n = length_at(s);
-    lay_front(
-        kind_from(1, s),
-        all_attributes(s),
-        0,
-        byte_at(s, 6),
-        0,
-        s,
+    lay_bare(
+        packet[8],
+        packet[9],
+        packet[10],
+        packet[11],
+        packet[12],
+        packet[13],
+        packet[14],
+        packet[15],
         record,
     );
-    lay_address(s, record);
+}
+
+fn lay_narrow(packet: &[u8], record: &mut [u8])
+    requires { ⌜ 12 ≤ length (now packet) ⌝ }
+    requires { ⌜ Room (now «record») ⌝ }
+    ensures { λ _. ⌜ now («record» .exit) ≡ put 8 (bytes 8 (addressAt 4 (now (packet .entry)))) (now («record» .entry)) ⌝ }
+{
+    lay_bare(
+        0,
+        0,
+        0,
+        0,
+        packet[8],
+        packet[9],
+        packet[10],
+        packet[11],
+        record,
+    );
+}
+
+fn lay_address(packet: &[u8], record: &mut [u8])
+    requires { ⌜ familyAt (now packet) ≡ Family.Memory ⌝ }
+    requires { ⌜ HeaderThere (now packet) ⌝ }
+    requires { ⌜ Room (now «record») ⌝ }
+    ensures { λ _. ⌜ now («record» .exit) ≡ put 8 (bytes 8 (addressRead (now (packet .entry)))) (now («record» .entry)) ⌝ }
+{
+    if is_wide(byte_at(packet, 0)) {
+        lay_wide(packet, record);
+        return;
+    }
+    lay_narrow(packet, record);
+}
+
+fn put_memory(digest: u32, packet: &[u8], record: &mut [u8])
+    requires { ⌜ digest ≡ digestWord (now packet) ⌝ }
+    requires { ⌜ familyAt (now packet) ≡ Family.Memory ⌝ }
+    requires { ⌜ HeaderThere (now packet) ⌝ }
+    requires { ⌜ Room (now «record») ⌝ }
+    ensures { λ _. ⌜ now («record» .exit) ≡ recordLaid (now (packet .entry)) (now («record» .entry)) ⌝ }
+{
+    let n = length_at(packet);
+    lay_front(
+        kind_from(1, packet),
+        all_attributes_at(packet),
+        0,
+        tag_at(packet),
+        0,
+        packet,
+        record,
+    );
+    lay_address(packet, record);
     lay(16, [0, 0, 0, 0, 0, 0, 0, 0], record);
-    lay_request(digest, n, s, record);
+    lay_request(digest, n, packet, record);
     lay(40, [0, 0, 0, 0, 0, 0, 0, 0], record);
 }
 
-fn put_io(digest: u32, s: &[u8], record: &mut [u8])
-    requires { ⌜ digest ≡ digestWord (now s) ⌝ }
-    requires { ⌜ familyOf (typeAt (byte (now s) 0)) ≡ Family.Io ⌝ }
-    requires { ⌜ 48 ≤ length (now «record») ⌝ }
-    ensures { λ _. ⌜ now («record» .exit) ≡ overFront (recordOf (packetAt (typeAt (byte (now (s .entry)) 0)) (now (s .entry)))) (now («record» .entry)) ⌝ }
+fn put_io(digest: u32, packet: &[u8], record: &mut [u8])
+    requires { ⌜ digest ≡ digestWord (now packet) ⌝ }
+    requires { ⌜ familyAt (now packet) ≡ Family.Io ⌝ }
+    requires { ⌜ Room (now «record») ⌝ }
+    ensures { λ _. ⌜ now («record» .exit) ≡ recordLaid (now (packet .entry)) (now («record» .entry)) ⌝ }
 {
-    let n = length_at(s);
+    let n = length_at(packet);
     lay_front(
-        kind_from(3, s),
-        low_attributes(s),
+        kind_from(3, packet),
+        low_attributes_at(packet),
         0,
-        byte_at(s, 6),
+        tag_at(packet),
         0,
-        s,
+        packet,
         record,
     );
-    lay_value(word32(s, 8) as u64 / 4 * 4, 0, record);
-    lay_request(digest, n, s, record);
+    lay_value(address32_at(packet), 0, record);
+    lay_request(digest, n, packet, record);
     lay(40, [0, 0, 0, 0, 0, 0, 0, 0], record);
 }
 
 // Type 4 or 5, read or write.
-fn config_kind(s: &[u8]) -> u8
-    requires { ⌜ familyOf (typeAt (byte (now s) 0)) ≡ Family.Config ⌝ }
-    ensures { λ r. ⌜ r ≡ ownOf (kindAt (typeAt (byte (now (s .entry)) 0)) (now (s .entry))) .kind ⌝ }
+fn config_kind(packet: &[u8]) -> u8
+    requires { ⌜ familyAt (now packet) ≡ Family.Config ⌝ }
+    ensures { λ r. ⌜ r ≡ kindRead (now (packet .entry)) ⌝ }
 {
-    kind_from(5 + byte_at(s, 0) % 2 * 2, s)
+    kind_from(5 + byte_at(packet, 0) % 2 * 2, packet)
 }
 
-fn lay_registers(s: &[u8], record: &mut [u8])
-    requires { ⌜ 48 ≤ length (now «record») ⌝ }
-    ensures { λ _. ⌜ now («record» .exit) ≡ put 40 (low (byte (now (s .entry)) 10) 4 ∷ field (byte (now (s .entry)) 11) 2 6 ∷ 0 ∷ 0 ∷ 0 ∷ 0 ∷ 0 ∷ 0 ∷ []) (now («record» .entry)) ⌝ }
+fn lay_registers(packet: &[u8], record: &mut [u8])
+    requires { ⌜ Room (now «record») ⌝ }
+    ensures { λ _. ⌜ now («record» .exit) ≡ put 40 (registersPart (now (packet .entry))) (now («record» .entry)) ⌝ }
 {
-    let b10 = byte_at(s, 10);
-    let b11 = byte_at(s, 11);
-    lay_bytes(40, b10 % 16, b11 / 4 % 64, 0, 0, 0, 0, 0, 0, record);
+    let extended = extended_register_at(packet);
+    let register = register_at(packet);
+    lay_bytes(40, extended, register, 0, 0, 0, 0, 0, 0, record);
 }
 
-fn put_config(digest: u32, s: &[u8], record: &mut [u8])
-    requires { ⌜ digest ≡ digestWord (now s) ⌝ }
-    requires { ⌜ familyOf (typeAt (byte (now s) 0)) ≡ Family.Config ⌝ }
-    requires { ⌜ 48 ≤ length (now «record») ⌝ }
-    ensures { λ _. ⌜ now («record» .exit) ≡ overFront (recordOf (packetAt (typeAt (byte (now (s .entry)) 0)) (now (s .entry)))) (now («record» .entry)) ⌝ }
+fn put_config(digest: u32, packet: &[u8], record: &mut [u8])
+    requires { ⌜ digest ≡ digestWord (now packet) ⌝ }
+    requires { ⌜ familyAt (now packet) ≡ Family.Config ⌝ }
+    requires { ⌜ Room (now «record») ⌝ }
+    ensures { λ _. ⌜ now («record» .exit) ≡ recordLaid (now (packet .entry)) (now («record» .entry)) ⌝ }
 {
-    let n = length_at(s);
+    let n = length_at(packet);
     lay_front(
-        config_kind(s),
-        low_attributes(s),
+        config_kind(packet),
+        low_attributes_at(packet),
         1,
-        byte_at(s, 6),
+        tag_at(packet),
         0,
-        s,
+        packet,
         record,
     );
-    lay_value(word16(s, 8) as u64, 0, record);
-    lay_request(digest, n, s, record);
-    lay_registers(s, record);
+    lay_value(route_id_at(packet) as u64, 0, record);
+    lay_request(digest, n, packet, record);
+    lay_registers(packet, record);
 }
 
 // Msg and Cpl have no length.
-fn length_given(s: &[u8]) -> u32
-    requires { ⌜ isUnlisted (familyOf (typeAt (byte (now s) 0))) ≡ false ⌝ }
-    ensures { λ r. ⌜ r ≡ pick (hasData (typeAt (byte (now (s .entry)) 0))) (lengthAt (now (s .entry))) 0 ⌝ }
+fn length_given(packet: &[u8]) -> u32
+    requires { ⌜ Listed (now packet) ⌝ }
+    ensures { λ r. ⌜ r ≡ lengthGiven (now (packet .entry)) ⌝ }
 {
-    if data_follows(byte_at(s, 0)) {
-        return length_at(s);
+    if data_follows(byte_at(packet, 0)) {
+        return length_at(packet);
     }
     0
 }
 
-fn message_case(s: &[u8]) -> u8
-    ensures { λ r. ⌜ r ≡ routeCase (messageRouteAt (now (s .entry))) ⌝ }
+// The record's number for a message's route.
+fn message_case(packet: &[u8]) -> u8
+    ensures { λ r. ⌜ r ≡ routeCase (messageRouteAt (now (packet .entry))) ⌝ }
 {
-    let routing = byte_at(s, 0) % 8;
+    let routing = routing_at(packet);
     match routing {
         1 => 0,
         2 => 1,
@@ -288,117 +321,107 @@ fn message_case(s: &[u8]) -> u8
     }
 }
 
-fn message_value(s: &[u8]) -> u64
-    requires { ⌜ 16 ≤ length (now s) ⌝ }
-    ensures { λ r. ⌜ r ≡ routeValue (messageRouteAt (now (s .entry))) ⌝ }
+// The address or the ID that a message goes by.
+fn message_value(packet: &[u8]) -> u64
+    requires { ⌜ 16 ≤ length (now packet) ⌝ }
+    ensures { λ r. ⌜ r ≡ routeValue (messageRouteAt (now (packet .entry))) ⌝ }
 {
-    let routing = byte_at(s, 0) % 8;
+    let routing = routing_at(packet);
     if routing == 1 {
-        return whole64(s, 8);
+        return whole_body_at(packet);
     }
     if routing == 2 {
-        return word16(s, 8) as u64;
+        return route_id_at(packet) as u64;
     }
     0
 }
 
 // Digest and length, then byte count and the sender's ID; no enables.
-fn lay_counted(digest: u32, n: u32, count: u32, s: &[u8], record: &mut [u8])
-    requires { ⌜ 48 ≤ length (now «record») ⌝ }
-    ensures { λ _. ⌜ now («record» .exit) ≡ put 32 (bytes 4 count ++ (bytes 2 (word 2 (now (s .entry)) 4) ++ (0 ∷ 0 ∷ []))) (put 24 (sizesPart digest n) (now («record» .entry))) ⌝ }
+fn lay_counted(digest: u32, n: u32, count: u32, id: u16, record: &mut [u8])
+    requires { ⌜ Room (now «record») ⌝ }
+    ensures { λ _. ⌜ now («record» .exit) ≡ put 32 (countedPart count id) (put 24 (sizesPart digest n) (now («record» .entry))) ⌝ }
 {
     lay_sizes(digest, n, record);
-    lay_count(count, word16(s, 4), 0, 0, record);
+    lay_count(count, id, 0, 0, record);
 }
 
-fn message_front(s: &[u8], record: &mut [u8])
-    requires { ⌜ isUnlisted (familyOf (typeAt (byte (now s) 0))) ≡ false ⌝ }
-    requires { ⌜ 48 ≤ length (now «record») ⌝ }
-    ensures { λ _. ⌜ now («record» .exit) ≡ put 0 ((9 + flag (hasData (typeAt (byte (now (s .entry)) 0)))) ∷ trafficClassAt (now (s .entry)) ∷ (field (byte (now (s .entry)) 1) 2 1 * 4 + field (byte (now (s .entry)) 2) 4 2) ∷ flag (poisonedAt (now (s .entry))) ∷ flag (digestAt (now (s .entry))) ∷ routeCase (messageRouteAt (now (s .entry))) ∷ byte (now (s .entry)) 6 ∷ byte (now (s .entry)) 7 ∷ []) (now («record» .entry)) ⌝ }
+fn message_front(packet: &[u8], record: &mut [u8])
+    requires { ⌜ Listed (now packet) ⌝ }
+    requires { ⌜ Room (now «record») ⌝ }
+    ensures { λ _. ⌜ now («record» .exit) ≡ put 0 (messageFront (now (packet .entry))) (now («record» .entry)) ⌝ }
 {
     lay_front(
-        kind_from(9, s),
-        all_attributes(s),
-        message_case(s),
-        byte_at(s, 6),
-        byte_at(s, 7),
-        s,
+        kind_from(9, packet),
+        all_attributes_at(packet),
+        message_case(packet),
+        tag_at(packet),
+        code_at(packet),
+        packet,
         record,
     );
 }
 
-fn put_message(digest: u32, s: &[u8], record: &mut [u8])
-    requires { ⌜ digest ≡ digestWord (now s) ⌝ }
-    requires { ⌜ familyOf (typeAt (byte (now s) 0)) ≡ Family.Message ⌝ }
-    requires { ⌜ 16 ≤ length (now s) ⌝ }
-    requires { ⌜ 48 ≤ length (now «record») ⌝ }
-    ensures { λ _. ⌜ now («record» .exit) ≡ overFront (recordOf (packetAt (typeAt (byte (now (s .entry)) 0)) (now (s .entry)))) (now («record» .entry)) ⌝ }
+fn put_message(digest: u32, packet: &[u8], record: &mut [u8])
+    requires { ⌜ digest ≡ digestWord (now packet) ⌝ }
+    requires { ⌜ familyAt (now packet) ≡ Family.Message ⌝ }
+    requires { ⌜ 16 ≤ length (now packet) ⌝ }
+    requires { ⌜ Room (now «record») ⌝ }
+    ensures { λ _. ⌜ now («record» .exit) ≡ recordLaid (now (packet .entry)) (now («record» .entry)) ⌝ }
 {
-    let n = length_given(s);
-    message_front(s, record);
-    lay_value(message_value(s), whole64(s, 8), record);
-    lay_counted(digest, n, 0, s, record);
+    let n = length_given(packet);
+    message_front(packet, record);
+    lay_value(message_value(packet), whole_body_at(packet), record);
+    lay_counted(digest, n, 0, requester_at(packet), record);
     lay(40, [0, 0, 0, 0, 0, 0, 0, 0], record);
 }
 
-fn join_count(b6: u8, b7: u8) -> u32
-    ensures { λ r. ⌜ r ≡ low b6 4 * 256 + b7 ⌝ }
+fn lay_status(packet: &[u8], record: &mut [u8])
+    requires { ⌜ Room (now «record») ⌝ }
+    ensures { λ _. ⌜ now («record» .exit) ≡ put 40 (statusPart (now (packet .entry))) (now («record» .entry)) ⌝ }
 {
-    (b6 as u32) % 16 * 256 + (b7 as u32)
+    let status = status_at(packet);
+    let modified = flag_of(byte_count_modified_at(packet));
+    let lower = lower_address_field_at(packet);
+    lay_bytes(40, 0, 0, status, modified, lower, 0, 0, 0, record);
 }
 
-fn byte_count(s: &[u8]) -> u32
-    ensures { λ r. ⌜ r ≡ orMost 4096 (low (byte (now (s .entry)) 6) 4 * 256 + byte (now (s .entry)) 7) ⌝ }
+fn put_completion(digest: u32, packet: &[u8], record: &mut [u8])
+    requires { ⌜ digest ≡ digestWord (now packet) ⌝ }
+    requires { ⌜ familyAt (now packet) ≡ Family.Completion ⌝ }
+    requires { ⌜ Room (now «record») ⌝ }
+    ensures { λ _. ⌜ now («record» .exit) ≡ recordLaid (now (packet .entry)) (now («record» .entry)) ⌝ }
 {
-    or_most(4096, join_count(byte_at(s, 6), byte_at(s, 7)))
-}
-
-fn lay_status(s: &[u8], record: &mut [u8])
-    requires { ⌜ 48 ≤ length (now «record») ⌝ }
-    ensures { λ _. ⌜ now («record» .exit) ≡ put 40 (0 ∷ 0 ∷ field (byte (now (s .entry)) 6) 5 3 ∷ flag (bit (byte (now (s .entry)) 6) 4) ∷ low (byte (now (s .entry)) 11) 7 ∷ 0 ∷ 0 ∷ 0 ∷ []) (now («record» .entry)) ⌝ }
-{
-    let b6 = byte_at(s, 6);
-    let modified = flag_of(b6 / 16 % 2 == 1);
-    let b11 = byte_at(s, 11);
-    lay_bytes(40, 0, 0, b6 / 32 % 8, modified, b11 % 128, 0, 0, 0, record);
-}
-
-fn put_completion(digest: u32, s: &[u8], record: &mut [u8])
-    requires { ⌜ digest ≡ digestWord (now s) ⌝ }
-    requires { ⌜ familyOf (typeAt (byte (now s) 0)) ≡ Family.Completion ⌝ }
-    requires { ⌜ 48 ≤ length (now «record») ⌝ }
-    ensures { λ _. ⌜ now («record» .exit) ≡ overFront (recordOf (packetAt (typeAt (byte (now (s .entry)) 0)) (now (s .entry)))) (now («record» .entry)) ⌝ }
-{
-    let n = length_given(s);
+    let n = length_given(packet);
     lay_front(
-        kind_from(11, s),
-        all_attributes(s),
+        kind_from(11, packet),
+        all_attributes_at(packet),
         1,
-        byte_at(s, 10),
+        completion_tag_at(packet),
         0,
-        s,
+        packet,
         record,
     );
-    lay_value(word16(s, 8) as u64, 0, record);
-    lay_counted(digest, n, byte_count(s), s, record);
-    lay_status(s, record);
+    lay_value(route_id_at(packet) as u64, 0, record);
+    let count = byte_count_field_at(packet);
+    lay_counted(digest, n, count, completer_at(packet), record);
+    lay_status(packet, record);
 }
 
 // Digest and lengths are read before anything is laid, and so only once.
-pub(crate) fn put_record(f: Family, digest: u32, s: &[u8], record: &mut [u8])
-    requires { ⌜ digest ≡ digestWord (now s) ⌝ }
-    requires { ⌜ f ≡ familyOf (typeAt (byte (now s) 0)) ⌝ }
+pub(crate) fn put_record(f: Family, digest: u32, packet: &[u8], record: &mut [u8])
+    requires { ⌜ digest ≡ digestWord (now packet) ⌝ }
+    requires { ⌜ f ≡ familyAt (now packet) ⌝ }
     requires { ⌜ isUnlisted f ≡ false ⌝ }
-    requires { ⌜ 4 * headerDw (typeAt (byte (now s) 0)) ≤ length (now s) ⌝ }
-    requires { ⌜ 48 ≤ length (now «record») ⌝ }
-    ensures { λ _. ⌜ now («record» .exit) ≡ overFront (recordOf (packetAt (typeAt (byte (now (s .entry)) 0)) (now (s .entry)))) (now («record» .entry)) ⌝ }
+    requires { ⌜ HeaderThere (now packet) ⌝ }
+    requires { ⌜ Room (now «record») ⌝ }
+    ensures { λ _. ⌜ now («record» .exit) ≡ recordLaid (now (packet .entry)) (now («record» .entry)) ⌝ }
 {
     match f {
-        Family::Memory => put_memory(digest, s, record),
-        Family::Io => put_io(digest, s, record),
-        Family::Config => put_config(digest, s, record),
-        Family::Message => put_message(digest, s, record),
-        Family::Completion => put_completion(digest, s, record),
+        Family::Memory => put_memory(digest, packet, record),
+        Family::Io => put_io(digest, packet, record),
+        Family::Config => put_config(digest, packet, record),
+        Family::Message => put_message(digest, packet, record),
+        Family::Completion => put_completion(digest, packet, record),
         Family::Unlisted => {}
     }
 }

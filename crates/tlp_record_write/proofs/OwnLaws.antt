@@ -16,7 +16,8 @@ use Rattle.byte_enables.specs.declared.Access.{Access}
 use Rattle.tlp.specs.Rows.{first}
 use Rattle.tlp.specs.PacketTypes.{familyOf}
 use Rattle.tlp.specs.Packets.{addressOf, memoryForm, typeIn, typeOf, accessAt, accessIn, accessOf}
-use Rattle.tlp.specs.Contents.{plainBad, enablesBad, pageBad, faultRows, memoryRows, registerRows}
+use Rattle.tlp.specs.Contents.{plainBad, enablesBad, pageBad, faultRows}
+use Rattle.tlp.specs.Inner.Contents.{memoryRows, registerRows}
 use Rattle.tlp.specs.declared.packet.Route.{Route}
 use Rattle.tlp.specs.declared.packet.Route.the-variants.{Address, Id, Implicit as Implied}
 use Rattle.tlp.specs.declared.packet.Implicit.the-variants.{Root, Broadcast, Local, Gathered}

@@ -28,9 +28,6 @@ module _ (most n : ℕ) where
 
 pub ruleset outside-laws = (outside-below, outside-above)
 
-pub either-law : (r a b x y : Bool) → r ≡ (a || b) → a ≡ x → b ≡ y → r ≡ (x || y)
-either-law r a b x y e f g = rw (← f, ← g) e
-
 -- a flag that must be clear
 
 pub clear-no : (b t : Bool) → b ≡ true → false ≡ (not b && t)

@@ -1,4 +1,4 @@
--- Document 01: what a packet that is to be written must not hold, the writer's first place for 6.
+-- Document 01: what a packet that is to be written must not hold, the writer's first place for 6. All to be believed.
 use Prim.Native.Nat.{ℕ, _+_, _*_, _/_, _%_, _^_}
 use mathlib.Core.Bool.{Bool, true, false, _||_, _&&_, not}
 use mathlib.Core.List.{List, [], _∷_}
@@ -38,6 +38,7 @@ commonBad p =
     || (over 32 (p .digest)
     || (not (p .«has_digest») && not (eqb (p .digest) 0))))
 
+-- a memory or I/O request
 unfoldable pub requestBad : Request → Bool
 requestBad q =
     over 16 (q .requester)
@@ -46,13 +47,15 @@ requestBad q =
     || (over 4 (q .first)
     || over 4 (q .last))))
 
+-- a configuration request
 unfoldable pub configBad : ConfigRequest → Bool
 configBad q = over 4 (q .«extended_register») || (over 6 (q .register) || requestBad (q .request))
 
+-- a message
 unfoldable pub messageBad : MessageRequest → Bool
 messageBad m = over 16 (m .requester) || (over 8 (m .tag) || (over 8 (m .code) || over 64 (m .body)))
 
--- "a Byte Count outside 1..4096"
+-- a completion, with "a Byte Count outside 1..4096"
 unfoldable pub completionBad : CompletionHeader → Bool
 completionBad c =
     over 16 (c .completer)
@@ -86,6 +89,7 @@ addressRouteBad w (Address a) = over w a || not (eqb (a % 4) 0)
 addressRouteBad w (Id i) = true
 addressRouteBad w (Implicit i) = true
 
+-- configuration requests and completions go by ID
 unfoldable pub idRouteBad : Route → Bool
 idRouteBad (Address a) = true
 idRouteBad (Id i) = over 16 i

@@ -10,10 +10,12 @@ use tlp::packet::type_of;
 use tlp::packet_type::family_of;
 use tlp::packet_type::is_io_or_config;
 ghost use mathlib.Core.Path.{_≡_};
-ghost use mathlib.Core.Bool.{_||_};
+ghost use mathlib.Core.Bool.{_||_, not};
+ghost use Prim.Native.Nat.{_%_};
+ghost use lib.Dec.{eqb};
 ghost use Rattle.tlp.specs.Rows.{first};
-ghost use Rattle.tlp_writable.specs.Given.{over, outside, commonBad, requestBad, configBad, messageBad, completionBad, ownBad, reservedGiven, addressRouteBad, idRouteBad, messageRouteBad, routeBad};
-ghost use Rattle.tlp_writable.specs.Given.{givenRows};
+ghost use Rattle.tlp_writable.specs.Given.{over, outside, lengthBad, commonBad, requestBad, configBad, messageBad, completionBad, ownBad, reservedGiven};
+ghost use Rattle.tlp_writable.specs.Given.{addressRouteBad, idRouteBad, messageRouteBad, routeBad, givenRows};
 
 // Whether a number is outside 1..most.
 pub fn outside_of(most: u32, n: u32) -> bool
@@ -25,6 +27,14 @@ pub fn outside_of(most: u32, n: u32) -> bool
     true
 }
 
+// A length in doublewords.
+fn length_bad(n: u32) -> bool
+    ensures { λ r. ⌜ r ≡ lengthBad n ⌝ }
+{
+    outside_of(1024, n)
+}
+
+// What packets of every kind hold.
 fn common_bad(p: Packet) -> bool
     ensures { λ r. ⌜ r ≡ commonBad p ⌝ }
 {
@@ -43,7 +53,7 @@ fn common_bad(p: Packet) -> bool
 fn request_bad(q: Request) -> bool
     ensures { λ r. ⌜ r ≡ requestBad q ⌝ }
 {
-    if outside_of(1024, q.length) {
+    if length_bad(q.length) {
         return true;
     }
     if 16 <= q.first {
@@ -84,15 +94,25 @@ fn message_bad(m: MessageRequest) -> bool
     false
 }
 
-fn either(a: bool, b: bool) -> bool
-    ensures { λ r. ⌜ r ≡ (a || b) ⌝ }
+fn message_data_bad(message: MessageRequest, length: u32) -> bool
+    ensures { λ r. ⌜ r ≡ (lengthBad length || messageBad message) ⌝ }
 {
-    if a {
+    if length_bad(length) {
         return true;
     }
-    b
+    message_bad(message)
 }
 
+fn completion_data_bad(completion: CompletionHeader, length: u32) -> bool
+    ensures { λ r. ⌜ r ≡ (lengthBad length || completionBad completion) ⌝ }
+{
+    if length_bad(length) {
+        return true;
+    }
+    completion_bad(completion)
+}
+
+// What the packet's kind holds.
 fn own_bad(k: Kind) -> bool
     ensures { λ r. ⌜ r ≡ ownBad k ⌝ }
 {
@@ -106,13 +126,9 @@ fn own_bad(k: Kind) -> bool
         Kind::ConfigRead1(q) => config_bad(q),
         Kind::ConfigWrite1(q) => config_bad(q),
         Kind::Message(m) => message_bad(m),
-        Kind::MessageData { message, length } => {
-            either(outside_of(1024, length), message_bad(message))
-        }
+        Kind::MessageData { message, length } => message_data_bad(message, length),
         Kind::Completion(c) => completion_bad(c),
-        Kind::CompletionData { completion, length } => {
-            either(outside_of(1024, length), completion_bad(completion))
-        }
+        Kind::CompletionData { completion, length } => completion_data_bad(completion, length),
     }
 }
 
@@ -135,11 +151,21 @@ fn wide_address_bad(r: Route) -> bool
     }
 }
 
+// An address over 32 bits, or not a multiple of 4.
+fn narrow_bad(a: u64) -> bool
+    ensures { λ b. ⌜ b ≡ (over 32 a || not (eqb (a % 4) 0)) ⌝ }
+{
+    if 4294967296 <= a {
+        return true;
+    }
+    a % 4 != 0
+}
+
 fn narrow_address_bad(r: Route) -> bool
     ensures { λ b. ⌜ b ≡ addressRouteBad 32 r ⌝ }
 {
     match r {
-        Route::Address(a) => either(4294967296 <= a, a % 4 != 0),
+        Route::Address(a) => narrow_bad(a),
         Route::Id(_) => true,
         Route::Implicit(_) => true,
     }

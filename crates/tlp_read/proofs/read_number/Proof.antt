@@ -12,12 +12,12 @@ returns c = search number-laws
 returns-2 : tie.Need-returns-2
 returns-2 c = search number-laws
 
-later-number-requires : tie.Need-later-number-requires
-later-number-requires c κs = search needs
+header-number-requires : tie.Need-header-number-requires
+header-number-requires c κs = search needs
 
 returns-3 : tie.Need-returns-3
 returns-3 c = search number-laws
 
 pub read-number-spec : {M : Type 1} → statement M
 read-number-spec =
-    tie.close (tie.spec settings-listed-requires returns returns-2 later-number-requires returns-3)
+    tie.close (tie.spec settings-listed-requires returns returns-2 header-number-requires returns-3)

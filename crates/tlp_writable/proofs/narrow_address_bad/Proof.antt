@@ -7,8 +7,8 @@ use Rattle.tlp_writable.proofs.narrow_address_bad.Tie as tie
 enum-known-r : tie.Need-enum-known-r
 enum-known-r c = search needs
 
-either-requires : tie.Need-either-requires
-either-requires c κs = search needs
+narrow-bad-requires : tie.Need-narrow-bad-requires
+narrow-bad-requires c κs = search needs
 
 enum-told : tie.Need-enum-told
 enum-told c = search needs
@@ -31,4 +31,4 @@ returns-3 c = search address-case
 pub narrow-address-bad-spec : {M : Type 1} → statement M
 narrow-address-bad-spec =
     tie.close
-    (tie.spec enum-known-r either-requires enum-told enum-told-2 returns returns-2 returns-3)
+    (tie.spec enum-known-r narrow-bad-requires enum-told enum-told-2 returns returns-2 returns-3)

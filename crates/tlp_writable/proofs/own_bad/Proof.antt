@@ -1,4 +1,4 @@
-use Rattle.tlp_writable.proofs.GivenLaws.{own-law, either-law}
+use Rattle.tlp_writable.proofs.GivenLaws.{own-law}
 use Rattle.tlp_writable.specs.Given.{ownBad}
 use borrow.Author.Needs.{needs}
 use Rattle.tlp_writable.proofs.own_bad.Statement.{statement}
@@ -61,14 +61,8 @@ message-bad-requires c κs = search needs
 enum-known-k-10 : tie.Need-enum-known-k-10
 enum-known-k-10 c = search needs
 
-outside-of-requires : tie.Need-outside-of-requires
-outside-of-requires c κs = search needs
-
-message-bad-requires-2 : tie.Need-message-bad-requires-2
-message-bad-requires-2 c κs = search needs
-
-either-requires : tie.Need-either-requires
-either-requires c κs = search needs
+message-data-bad-requires : tie.Need-message-data-bad-requires
+message-data-bad-requires c κs = search needs
 
 enum-known-k-11 : tie.Need-enum-known-k-11
 enum-known-k-11 c = search needs
@@ -79,14 +73,8 @@ completion-bad-requires c κs = search needs
 enum-known-k-12 : tie.Need-enum-known-k-12
 enum-known-k-12 c = search needs
 
-outside-of-requires-2 : tie.Need-outside-of-requires-2
-outside-of-requires-2 c κs = search needs
-
-completion-bad-requires-2 : tie.Need-completion-bad-requires-2
-completion-bad-requires-2 c κs = search needs
-
-either-requires-2 : tie.Need-either-requires-2
-either-requires-2 c κs = search needs
+completion-data-bad-requires : tie.Need-completion-data-bad-requires
+completion-data-bad-requires c κs = search needs
 
 returns : tie.Need-returns
 unfolding ownBad
@@ -126,7 +114,7 @@ returns-9 c = search own-law
 
 returns-10 : tie.Need-returns-10
 unfolding ownBad
-returns-10 c = search (own-law, either-law)
+returns-10 c = search own-law
 
 returns-11 : tie.Need-returns-11
 unfolding ownBad
@@ -134,7 +122,7 @@ returns-11 c = search own-law
 
 returns-12 : tie.Need-returns-12
 unfolding ownBad
-returns-12 c = search (own-law, either-law)
+returns-12 c = search own-law
 
 pub own-bad-spec : {M : Type 1} → statement M
 own-bad-spec =
@@ -159,15 +147,11 @@ own-bad-spec =
     enum-known-k-9
     message-bad-requires
     enum-known-k-10
-    outside-of-requires
-    message-bad-requires-2
-    either-requires
+    message-data-bad-requires
     enum-known-k-11
     completion-bad-requires
     enum-known-k-12
-    outside-of-requires-2
-    completion-bad-requires-2
-    either-requires-2
+    completion-data-bad-requires
     returns
     returns-2
     returns-3

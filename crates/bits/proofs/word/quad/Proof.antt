@@ -19,7 +19,7 @@ join32-requires c κs = search needs
 returns : tie.Need-returns
 returns c =
     let a = c .before .before .before .before .args in
-    omega (arith, word-split 2 2 (a .s .now) (a .i))
+    omega (arith, word-split 2 2 (a .src .now) (a .i))
 
 pub quad-spec : {M : Type 1} → statement M
 quad-spec = tie.close (tie.spec pair-requires add-pair pair-requires-2 join32-requires returns)

@@ -25,7 +25,7 @@ join64-requires c κs = search needs
 returns-2 : tie.Need-returns-2
 returns-2 c =
     let a = c .before .before .before .before .before .args in
-    whole-there 8 (a .s .now) (a .at) (omega arith) _ (omega (arith, word-split 4 4 (a .s .now) (a .at)))
+    whole-there 8 (a .src .now) (a .at) (omega arith) _ (omega (arith, word-split 4 4 (a .src .now) (a .at)))
 
 pub whole64-spec : {M : Type 1} → statement M
 whole64-spec =

@@ -19,7 +19,7 @@ join64-requires c κs = search needs
 returns : tie.Need-returns
 returns c =
     let a = c .before .before .before .before .args in
-    omega (arith, word-split 4 4 (a .s .now) (a .at))
+    omega (arith, word-split 4 4 (a .src .now) (a .at))
 
 pub word64-spec : {M : Type 1} → statement M
 word64-spec = tie.close (tie.spec quad-requires add-quad quad-requires-2 join64-requires returns)

@@ -3,22 +3,20 @@ use borrow.Author.Needs.{needs}
 use Rattle.tlp_read.proofs.fields.message_at.Statement.{statement}
 use Rattle.tlp_read.proofs.fields.message_at.Tie as tie
 
-word16-requires : tie.Need-word16-requires
-word16-requires c κs = search needs
+requester-at-requires : tie.Need-requester-at-requires
+requester-at-requires c κs = search needs
 
-byte-at-requires : tie.Need-byte-at-requires
-byte-at-requires c κs = search needs
+tag-at-requires : tie.Need-tag-at-requires
+tag-at-requires c κs = search needs
 
-byte-at-requires-2 : tie.Need-byte-at-requires-2
-byte-at-requires-2 c κs = search needs
+code-at-requires : tie.Need-code-at-requires
+code-at-requires c κs = search needs
 
-word64-requires : tie.Need-word64-requires
-word64-requires c κs = search needs
+body-at-requires : tie.Need-body-at-requires
+body-at-requires c κs = search needs
 
 returns : tie.Need-returns
 returns c = search message-law depth 8
 
 pub message-at-spec : {M : Type 1} → statement M
-message-at-spec =
-    tie.close
-    (tie.spec word16-requires byte-at-requires byte-at-requires-2 word64-requires returns)
+message-at-spec = tie.close (tie.spec requester-at-requires tag-at-requires code-at-requires body-at-requires returns)

@@ -6,14 +6,14 @@ use Rattle.tlp_read.proofs.fields.message_route_at.Tie as tie
 routing-at-requires : tie.Need-routing-at-requires
 routing-at-requires c κs = search needs
 
-word64-requires : tie.Need-word64-requires
-word64-requires c κs = search needs
+body-at-requires : tie.Need-body-at-requires
+body-at-requires c κs = search needs
 
 returns : tie.Need-returns
 returns c = search message-route-laws
 
-word16-requires : tie.Need-word16-requires
-word16-requires c κs = search needs
+route-id-at-requires : tie.Need-route-id-at-requires
+route-id-at-requires c κs = search needs
 
 returns-2 : tie.Need-returns-2
 returns-2 c = search message-route-laws
@@ -29,9 +29,9 @@ message-route-at-spec =
     tie.close
     (tie.spec
     routing-at-requires
-    word64-requires
+    body-at-requires
     returns
-    word16-requires
+    route-id-at-requires
     returns-2
     implicit-at-requires
     returns-3)

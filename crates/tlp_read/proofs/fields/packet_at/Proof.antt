@@ -3,14 +3,14 @@ use borrow.Author.Needs.{needs}
 use Rattle.tlp_read.proofs.fields.packet_at.Statement.{statement}
 use Rattle.tlp_read.proofs.fields.packet_at.Tie as tie
 
-byte-at-requires : tie.Need-byte-at-requires
-byte-at-requires c κs = search needs
-
-byte-at-requires-2 : tie.Need-byte-at-requires-2
-byte-at-requires-2 c κs = search needs
+traffic-class-at-requires : tie.Need-traffic-class-at-requires
+traffic-class-at-requires c κs = search needs
 
 attributes-at-requires : tie.Need-attributes-at-requires
 attributes-at-requires c κs = search needs
+
+poisoned-at-requires : tie.Need-poisoned-at-requires
+poisoned-at-requires c κs = search needs
 
 digest-at-requires : tie.Need-digest-at-requires
 digest-at-requires c κs = search needs
@@ -28,14 +28,4 @@ returns : tie.Need-returns
 returns c = search packet-law depth 8
 
 pub packet-at-spec : {M : Type 1} → statement M
-packet-at-spec =
-    tie.close
-    (tie.spec
-    byte-at-requires
-    byte-at-requires-2
-    attributes-at-requires
-    digest-at-requires
-    digest-word-requires
-    route-at-requires
-    kind-at-requires
-    returns)
+packet-at-spec = tie.close (tie.spec traffic-class-at-requires attributes-at-requires poisoned-at-requires digest-at-requires digest-word-requires route-at-requires kind-at-requires returns)

@@ -3,22 +3,23 @@ use borrow.Author.Needs.{needs}
 use Rattle.tlp_read.proofs.fields.request_at.Statement.{statement}
 use Rattle.tlp_read.proofs.fields.request_at.Tie as tie
 
-byte-at-requires : tie.Need-byte-at-requires
-byte-at-requires c κs = search needs
+requester-at-requires : tie.Need-requester-at-requires
+requester-at-requires c κs = search needs
 
-word16-requires : tie.Need-word16-requires
-word16-requires c κs = search needs
-
-byte-at-requires-2 : tie.Need-byte-at-requires-2
-byte-at-requires-2 c κs = search needs
+tag-at-requires : tie.Need-tag-at-requires
+tag-at-requires c κs = search needs
 
 length-at-requires : tie.Need-length-at-requires
 length-at-requires c κs = search needs
+
+first-enables-at-requires : tie.Need-first-enables-at-requires
+first-enables-at-requires c κs = search needs
+
+last-enables-at-requires : tie.Need-last-enables-at-requires
+last-enables-at-requires c κs = search needs
 
 returns : tie.Need-returns
 returns c = search request-law depth 8
 
 pub request-at-spec : {M : Type 1} → statement M
-request-at-spec =
-    tie.close
-    (tie.spec byte-at-requires word16-requires byte-at-requires-2 length-at-requires returns)
+request-at-spec = tie.close (tie.spec requester-at-requires tag-at-requires length-at-requires first-enables-at-requires last-enables-at-requires returns)

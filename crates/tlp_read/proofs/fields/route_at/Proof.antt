@@ -43,26 +43,26 @@ address32-at-requires-4 c κs = search needs
 enum-told-7 : tie.Need-enum-told-7
 enum-told-7 c = search needs
 
-word16-requires : tie.Need-word16-requires
-word16-requires c κs = search needs
+route-id-at-requires : tie.Need-route-id-at-requires
+route-id-at-requires c κs = search needs
 
 enum-told-8 : tie.Need-enum-told-8
 enum-told-8 c = search needs
 
-word16-requires-2 : tie.Need-word16-requires-2
-word16-requires-2 c κs = search needs
+route-id-at-requires-2 : tie.Need-route-id-at-requires-2
+route-id-at-requires-2 c κs = search needs
 
 enum-told-9 : tie.Need-enum-told-9
 enum-told-9 c = search needs
 
-word16-requires-3 : tie.Need-word16-requires-3
-word16-requires-3 c κs = search needs
+route-id-at-requires-3 : tie.Need-route-id-at-requires-3
+route-id-at-requires-3 c κs = search needs
 
 enum-told-10 : tie.Need-enum-told-10
 enum-told-10 c = search needs
 
-word16-requires-4 : tie.Need-word16-requires-4
-word16-requires-4 c κs = search needs
+route-id-at-requires-4 : tie.Need-route-id-at-requires-4
+route-id-at-requires-4 c κs = search needs
 
 enum-told-11 : tie.Need-enum-told-11
 enum-told-11 c = search needs
@@ -79,14 +79,14 @@ message-route-at-requires-2 c κs = search needs
 enum-told-13 : tie.Need-enum-told-13
 enum-told-13 c = search needs
 
-word16-requires-5 : tie.Need-word16-requires-5
-word16-requires-5 c κs = search needs
+route-id-at-requires-5 : tie.Need-route-id-at-requires-5
+route-id-at-requires-5 c κs = search needs
 
 enum-told-14 : tie.Need-enum-told-14
 enum-told-14 c = search needs
 
-word16-requires-6 : tie.Need-word16-requires-6
-word16-requires-6 c κs = search needs
+route-id-at-requires-6 : tie.Need-route-id-at-requires-6
+route-id-at-requires-6 c κs = search needs
 
 enum-told-15 : tie.Need-enum-told-15
 enum-told-15 c = search needs
@@ -168,21 +168,21 @@ route-at-spec =
     enum-told-6
     address32-at-requires-4
     enum-told-7
-    word16-requires
+    route-id-at-requires
     enum-told-8
-    word16-requires-2
+    route-id-at-requires-2
     enum-told-9
-    word16-requires-3
+    route-id-at-requires-3
     enum-told-10
-    word16-requires-4
+    route-id-at-requires-4
     enum-told-11
     message-route-at-requires
     enum-told-12
     message-route-at-requires-2
     enum-told-13
-    word16-requires-5
+    route-id-at-requires-5
     enum-told-14
-    word16-requires-6
+    route-id-at-requires-6
     enum-told-15
     returns
     returns-2

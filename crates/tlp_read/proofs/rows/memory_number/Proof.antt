@@ -4,8 +4,8 @@ use borrow.Author.Needs.{needs}
 use Rattle.tlp_read.proofs.rows.memory_number.Statement.{statement}
 use Rattle.tlp_read.proofs.rows.memory_number.Tie as tie
 
-hints-bad-requires : tie.Need-hints-bad-requires
-hints-bad-requires c κs = search needs
+hint-or-address-type-at-requires : tie.Need-hint-or-address-type-at-requires
+hint-or-address-type-at-requires c κs = search needs
 
 returns : tie.Need-returns
 returns c = search (memory-rows, rows) depth 12 fits 4000
@@ -28,8 +28,8 @@ crosses-page-requires c κs = search needs
 returns-4 : tie.Need-returns-4
 returns-4 c = search (memory-rows-of, rows) depth 12 fits 4000
 
-form-bad-requires : tie.Need-form-bad-requires
-form-bad-requires c κs = search memory-listed
+wide-form-bad-requires : tie.Need-wide-form-bad-requires
+wide-form-bad-requires c κs = search memory-listed
 
 returns-5 : tie.Need-returns-5
 returns-5 c = search (memory-rows-of, rows) depth 12 fits 4000
@@ -41,7 +41,7 @@ pub memory-number-spec : {M : Type 1} → statement M
 memory-number-spec =
     tie.close
     (tie.spec
-    hints-bad-requires
+    hint-or-address-type-at-requires
     returns
     returns-2
     memory-access-requires
@@ -49,6 +49,6 @@ memory-number-spec =
     returns-3
     crosses-page-requires
     returns-4
-    form-bad-requires
+    wide-form-bad-requires
     returns-5
     returns-6)

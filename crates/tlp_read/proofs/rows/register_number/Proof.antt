@@ -7,8 +7,8 @@ use Rattle.tlp_read.proofs.rows.register_number.Tie as tie
 returns : tie.Need-returns
 returns c = search (register-rows, rows) depth 12 fits 4000
 
-not-plain-requires : tie.Need-not-plain-requires
-not-plain-requires c κs = search needs
+not-plain-at-requires : tie.Need-not-plain-at-requires
+not-plain-at-requires c κs = search needs
 
 returns-2 : tie.Need-returns-2
 returns-2 c = search (register-rows, rows) depth 12 fits 4000
@@ -25,4 +25,4 @@ returns-4 c = search (register-rows, rows) depth 12 fits 4000
 pub register-number-spec : {M : Type 1} → statement M
 register-number-spec =
     tie.close
-    (tie.spec returns not-plain-requires returns-2 last-given-requires returns-3 returns-4)
+    (tie.spec returns not-plain-at-requires returns-2 last-given-requires returns-3 returns-4)

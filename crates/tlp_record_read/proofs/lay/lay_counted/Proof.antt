@@ -6,9 +6,6 @@ use Rattle.tlp_record_read.proofs.lay.lay_counted.Tie as tie
 lay-sizes-requires : tie.Need-lay-sizes-requires
 lay-sizes-requires c κs = search needs
 
-word16-requires : tie.Need-word16-requires
-word16-requires c κs = search needs
-
 lay-count-requires : tie.Need-lay-count-requires
 lay-count-requires c κs = search needs
 
@@ -19,5 +16,4 @@ returns : tie.Need-returns
 returns c = search counted-law
 
 pub lay-counted-spec : {M : Type 1} → statement M
-lay-counted-spec =
-    tie.close (tie.spec lay-sizes-requires word16-requires lay-count-requires same-length returns)
+lay-counted-spec = tie.close (tie.spec lay-sizes-requires lay-count-requires same-length returns)

@@ -3,8 +3,8 @@ use borrow.Author.Needs.{needs}
 use Rattle.tlp_record_read.proofs.lay.message_case.Statement.{statement}
 use Rattle.tlp_record_read.proofs.lay.message_case.Tie as tie
 
-byte-at-requires : tie.Need-byte-at-requires
-byte-at-requires c κs = search needs
+routing-at-requires : tie.Need-routing-at-requires
+routing-at-requires c κs = search needs
 
 returns : tie.Need-returns
 returns c = search case-law
@@ -25,5 +25,4 @@ returns-6 : tie.Need-returns-6
 returns-6 c = search case-rest depth 14
 
 pub message-case-spec : {M : Type 1} → statement M
-message-case-spec =
-    tie.close (tie.spec byte-at-requires returns returns-2 returns-3 returns-4 returns-5 returns-6)
+message-case-spec = tie.close (tie.spec routing-at-requires returns returns-2 returns-3 returns-4 returns-5 returns-6)

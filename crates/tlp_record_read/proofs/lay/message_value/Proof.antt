@@ -3,17 +3,17 @@ use borrow.Author.Needs.{needs}
 use Rattle.tlp_record_read.proofs.lay.message_value.Statement.{statement}
 use Rattle.tlp_record_read.proofs.lay.message_value.Tie as tie
 
-byte-at-requires : tie.Need-byte-at-requires
-byte-at-requires c κs = search needs
+routing-at-requires : tie.Need-routing-at-requires
+routing-at-requires c κs = search needs
 
-whole64-requires : tie.Need-whole64-requires
-whole64-requires c κs = search needs
+whole-body-at-requires : tie.Need-whole-body-at-requires
+whole-body-at-requires c κs = search needs
 
 returns : tie.Need-returns
 returns c = search value-laws
 
-word16-requires : tie.Need-word16-requires
-word16-requires c κs = search needs
+route-id-at-requires : tie.Need-route-id-at-requires
+route-id-at-requires c κs = search needs
 
 cast-result : tie.Need-cast-result
 cast-result c = search needs
@@ -25,13 +25,4 @@ returns-3 : tie.Need-returns-3
 returns-3 c = search value-laws
 
 pub message-value-spec : {M : Type 1} → statement M
-message-value-spec =
-    tie.close
-    (tie.spec
-    byte-at-requires
-    whole64-requires
-    returns
-    word16-requires
-    cast-result
-    returns-2
-    returns-3)
+message-value-spec = tie.close (tie.spec routing-at-requires whole-body-at-requires returns route-id-at-requires cast-result returns-2 returns-3)

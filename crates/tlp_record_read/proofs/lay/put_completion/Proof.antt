@@ -9,17 +9,17 @@ length-given-requires c κs = search family-listed
 kind-from-requires : tie.Need-kind-from-requires
 kind-from-requires c κs = (search needs, search family-listed)
 
-all-attributes-requires : tie.Need-all-attributes-requires
-all-attributes-requires c κs = search needs
+all-attributes-at-requires : tie.Need-all-attributes-at-requires
+all-attributes-at-requires c κs = search needs
 
-byte-at-requires : tie.Need-byte-at-requires
-byte-at-requires c κs = search needs
+completion-tag-at-requires : tie.Need-completion-tag-at-requires
+completion-tag-at-requires c κs = search needs
 
 lay-front-requires : tie.Need-lay-front-requires
 lay-front-requires c κs = search needs
 
-word16-requires : tie.Need-word16-requires
-word16-requires c κs = search needs
+route-id-at-requires : tie.Need-route-id-at-requires
+route-id-at-requires c κs = search needs
 
 cast-lay-value : tie.Need-cast-lay-value
 cast-lay-value c = search needs
@@ -27,8 +27,11 @@ cast-lay-value c = search needs
 lay-value-requires : tie.Need-lay-value-requires
 lay-value-requires c κs = search needs
 
-byte-count-requires : tie.Need-byte-count-requires
-byte-count-requires c κs = search needs
+byte-count-field-at-requires : tie.Need-byte-count-field-at-requires
+byte-count-field-at-requires c κs = search needs
+
+completer-at-requires : tie.Need-completer-at-requires
+completer-at-requires c κs = search needs
 
 lay-counted-requires : tie.Need-lay-counted-requires
 lay-counted-requires c κs = search needs
@@ -43,19 +46,4 @@ returns : tie.Need-returns
 returns c = search completion-put depth 8 fits 4000
 
 pub put-completion-spec : {M : Type 1} → statement M
-put-completion-spec =
-    tie.close
-    (tie.spec
-    length-given-requires
-    kind-from-requires
-    all-attributes-requires
-    byte-at-requires
-    lay-front-requires
-    word16-requires
-    cast-lay-value
-    lay-value-requires
-    byte-count-requires
-    lay-counted-requires
-    lay-status-requires
-    same-length
-    returns)
+put-completion-spec = tie.close (tie.spec length-given-requires kind-from-requires all-attributes-at-requires completion-tag-at-requires lay-front-requires route-id-at-requires cast-lay-value lay-value-requires byte-count-field-at-requires completer-at-requires lay-counted-requires lay-status-requires same-length returns)

@@ -9,17 +9,17 @@ length-at-requires c κs = search needs
 config-kind-requires : tie.Need-config-kind-requires
 config-kind-requires c κs = search needs
 
-low-attributes-requires : tie.Need-low-attributes-requires
-low-attributes-requires c κs = search needs
+low-attributes-at-requires : tie.Need-low-attributes-at-requires
+low-attributes-at-requires c κs = search needs
 
-byte-at-requires : tie.Need-byte-at-requires
-byte-at-requires c κs = search needs
+tag-at-requires : tie.Need-tag-at-requires
+tag-at-requires c κs = search needs
 
 lay-front-requires : tie.Need-lay-front-requires
 lay-front-requires c κs = search needs
 
-word16-requires : tie.Need-word16-requires
-word16-requires c κs = search needs
+route-id-at-requires : tie.Need-route-id-at-requires
+route-id-at-requires c κs = search needs
 
 cast-lay-value : tie.Need-cast-lay-value
 cast-lay-value c = search needs
@@ -40,18 +40,4 @@ returns : tie.Need-returns
 returns c = search config-put depth 8 fits 4000
 
 pub put-config-spec : {M : Type 1} → statement M
-put-config-spec =
-    tie.close
-    (tie.spec
-    length-at-requires
-    config-kind-requires
-    low-attributes-requires
-    byte-at-requires
-    lay-front-requires
-    word16-requires
-    cast-lay-value
-    lay-value-requires
-    lay-request-requires
-    lay-registers-requires
-    same-length
-    returns)
+put-config-spec = tie.close (tie.spec length-at-requires config-kind-requires low-attributes-at-requires tag-at-requires lay-front-requires route-id-at-requires cast-lay-value lay-value-requires lay-request-requires lay-registers-requires same-length returns)

@@ -9,11 +9,11 @@ length-at-requires c κs = search needs
 kind-from-requires : tie.Need-kind-from-requires
 kind-from-requires c κs = (search needs, search family-listed)
 
-all-attributes-requires : tie.Need-all-attributes-requires
-all-attributes-requires c κs = search needs
+all-attributes-at-requires : tie.Need-all-attributes-at-requires
+all-attributes-at-requires c κs = search needs
 
-byte-at-requires : tie.Need-byte-at-requires
-byte-at-requires c κs = search needs
+tag-at-requires : tie.Need-tag-at-requires
+tag-at-requires c κs = search needs
 
 lay-front-requires : tie.Need-lay-front-requires
 lay-front-requires c κs = search needs
@@ -37,17 +37,4 @@ returns : tie.Need-returns
 returns c = search memory-put depth 8 fits 4000
 
 pub put-memory-spec : {M : Type 1} → statement M
-put-memory-spec =
-    tie.close
-    (tie.spec
-    length-at-requires
-    kind-from-requires
-    all-attributes-requires
-    byte-at-requires
-    lay-front-requires
-    lay-address-requires
-    lay-requires
-    lay-request-requires
-    lay-requires-2
-    same-length
-    returns)
+put-memory-spec = tie.close (tie.spec length-at-requires kind-from-requires all-attributes-at-requires tag-at-requires lay-front-requires lay-address-requires lay-requires lay-request-requires lay-requires-2 same-length returns)

@@ -12,11 +12,14 @@ message-front-requires c κs = (search family-listed, search needs)
 message-value-requires : tie.Need-message-value-requires
 message-value-requires c κs = search needs
 
-whole64-requires : tie.Need-whole64-requires
-whole64-requires c κs = search needs
+whole-body-at-requires : tie.Need-whole-body-at-requires
+whole-body-at-requires c κs = search needs
 
 lay-value-requires : tie.Need-lay-value-requires
 lay-value-requires c κs = search needs
+
+requester-at-requires : tie.Need-requester-at-requires
+requester-at-requires c κs = search needs
 
 lay-counted-requires : tie.Need-lay-counted-requires
 lay-counted-requires c κs = search needs
@@ -31,15 +34,4 @@ returns : tie.Need-returns
 returns c = search message-put depth 8 fits 4000
 
 pub put-message-spec : {M : Type 1} → statement M
-put-message-spec =
-    tie.close
-    (tie.spec
-    length-given-requires
-    message-front-requires
-    message-value-requires
-    whole64-requires
-    lay-value-requires
-    lay-counted-requires
-    lay-requires
-    same-length
-    returns)
+put-message-spec = tie.close (tie.spec length-given-requires message-front-requires message-value-requires whole-body-at-requires lay-value-requires requester-at-requires lay-counted-requires lay-requires same-length returns)

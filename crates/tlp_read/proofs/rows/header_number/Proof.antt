@@ -1,7 +1,7 @@
 use Rattle.tlp_read.proofs.ReadReturns.{later-laws, later-family, later-listed, later-known, later-room}
 use borrow.Author.Needs.{needs}
-use Rattle.tlp_read.proofs.rows.later_number.Statement.{statement}
-use Rattle.tlp_read.proofs.rows.later_number.Tie as tie
+use Rattle.tlp_read.proofs.rows.header_number.Statement.{statement}
+use Rattle.tlp_read.proofs.rows.header_number.Tie as tie
 
 byte-at-requires : tie.Need-byte-at-requires
 byte-at-requires c κs = search needs
@@ -21,8 +21,8 @@ returns-2 c = search later-laws
 data-size-requires : tie.Need-data-size-requires
 data-size-requires c κs = search later-listed
 
-size-called-requires : tie.Need-size-called-requires
-size-called-requires c κs = search needs
+size-with-digest-requires : tie.Need-size-with-digest-requires
+size-with-digest-requires c κs = search needs
 
 returns-3 : tie.Need-returns-3
 returns-3 c = search later-laws
@@ -36,8 +36,8 @@ judge-number-requires c κs = search (later-family, later-known, later-room, nee
 returns-4 : tie.Need-returns-4
 returns-4 c = search later-laws
 
-pub later-number-spec : {M : Type 1} → statement M
-later-number-spec =
+pub header-number-spec : {M : Type 1} → statement M
+header-number-spec =
     tie.close
     (tie.spec
     byte-at-requires
@@ -46,7 +46,7 @@ later-number-spec =
     header-size-requires
     returns-2
     data-size-requires
-    size-called-requires
+    size-with-digest-requires
     returns-3
     family-by-type-requires
     judge-number-requires

@@ -1,7 +1,7 @@
 use Rattle.tlp_read.proofs.ReadReturns.{form-laws}
 use borrow.Author.Needs.{needs}
-use Rattle.tlp_read.proofs.rows.form_bad.Statement.{statement}
-use Rattle.tlp_read.proofs.rows.form_bad.Tie as tie
+use Rattle.tlp_read.proofs.rows.wide_form_bad.Statement.{statement}
+use Rattle.tlp_read.proofs.rows.wide_form_bad.Tie as tie
 
 byte-at-requires : tie.Need-byte-at-requires
 byte-at-requires c κs = search needs
@@ -18,6 +18,6 @@ returns c = search form-laws
 returns-2 : tie.Need-returns-2
 returns-2 c = search form-laws
 
-pub form-bad-spec : {M : Type 1} → statement M
-form-bad-spec =
+pub wide-form-bad-spec : {M : Type 1} → statement M
+wide-form-bad-spec =
     tie.close (tie.spec byte-at-requires is-wide-requires word32-requires returns returns-2)

@@ -2,8 +2,8 @@ use Rattle.tlp_read.proofs.ReadReturns.{size-law}
 use Rattle.tlp.proofs.Bounds.{digest-le}
 use native.Mathlib.Omega.{arith}
 use borrow.Author.Needs.{needs}
-use Rattle.tlp_read.proofs.rows.size_called.Statement.{statement}
-use Rattle.tlp_read.proofs.rows.size_called.Tie as tie
+use Rattle.tlp_read.proofs.rows.size_with_digest.Statement.{statement}
+use Rattle.tlp_read.proofs.rows.size_with_digest.Tie as tie
 
 add-result : tie.Need-add-result
 add-result c = search needs
@@ -20,6 +20,6 @@ add-result-2 c = omega (arith, digest-le (c .before .digest-at .result), c .dige
 returns : tie.Need-returns
 returns c = search size-law
 
-pub size-called-spec : {M : Type 1} → statement M
-size-called-spec =
+pub size-with-digest-spec : {M : Type 1} → statement M
+size-with-digest-spec =
     tie.close (tie.spec add-result digest-at-requires digest-bytes-requires add-result-2 returns)

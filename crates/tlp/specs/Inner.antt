@@ -1,0 +1,2 @@
+pub mod PacketTypes
+pub mod Contents
