@@ -1,4 +1,5 @@
--- A choice between two values by a test, a test as a number, and whether a number stands in a list. All to be believed: the rules are written in them.
+-- A choice between two values by a test, a test as a number, and whether a number stands in a list. All to be believed:
+-- the rules are written in them.
 use Prim.Native.Nat.{ℕ}
 use mathlib.Core.Bool.{Bool, true, false, _||_}
 use mathlib.Core.List.{List, [], _∷_}

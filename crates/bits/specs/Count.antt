@@ -1,4 +1,5 @@
--- Document 01, "Byte enables": counts of bits in a field of w bits, bit by bit. All to be believed: off, trail and enabled bytes are such counts.
+-- Document 01, "Byte enables": counts of bits in a field of w bits, bit by bit. All to be believed: off, trail and
+-- enabled bytes are such counts.
 use Prim.Native.Nat.{ℕ, zero, suc, _+_, _/_}
 use Rattle.bits.specs.Choice.{pick}
 use Rattle.bits.specs.Field.{field, bit}

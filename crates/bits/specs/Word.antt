@@ -1,4 +1,5 @@
--- Numbers of several bytes: "Multi-byte fields have the high byte first." All to be believed, but `wholeWord`, which serves only quick reading.
+-- Numbers of several bytes: "Multi-byte fields have the high byte first." All to be believed, but `wholeWord`, which
+-- serves only quick reading.
 use Prim.Native.Nat.{ℕ, zero, suc, _+_, _*_, _/_, _%_, _^_}
 use mathlib.Core.List.{List, [], _∷_}
 use lib.Dec.{leb}

@@ -1,4 +1,5 @@
-// Bytes of a slice, and numbers of several bytes, the high byte first. A place past the end reads as 0, so nobody has to look first.
+// Bytes of a slice, and numbers of several bytes, the high byte first. A place past the end reads as 0, so nobody has
+// to look first.
 ghost use mathlib.Core.Path.{_≡_};
 ghost use Prim.Native.Nat.{ℕ, _+_, _*_, _/_, _%_, _^_, _≤_, _<_};
 ghost use mathlib.Core.List.{List, [], _∷_};

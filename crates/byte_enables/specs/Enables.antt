@@ -1,5 +1,5 @@
--- Document 01, "Byte enables": which bytes of a request's doublewords are enabled, over one request (address, length, first, last).
--- All to be believed.
+-- Document 01, "Byte enables": which bytes of a request's doublewords are enabled, over one request (address, length,
+-- first, last). All to be believed.
 use Prim.Native.Nat.{ℕ, zero, suc, _+_, _-_, _*_, _/_, _%_}
 use mathlib.Core.Bool.{Bool, _&&_, not}
 use mathlib.Core.List.{List, [], _∷_}
@@ -17,8 +17,8 @@ firstKinds = 0b1111 ∷ 0b1110 ∷ 0b1100 ∷ 0b1000 ∷ []
 abbrev pub lastKinds : List ℕ
 lastKinds = 0b1111 ∷ 0b0111 ∷ 0b0011 ∷ 0b0001 ∷ []
 
--- "Length 1: last is 0000, first is anything"; "Length 2: neither is 0000; holes are permitted"; "Length 3 or more: first is 1111, 1110, 1100 or
--- 1000; last is 1111, 0111, 0011 or 0001."
+-- "Length 1: last is 0000, first is anything"; "Length 2: neither is 0000; holes are permitted"; "Length 3 or more:
+-- first is 1111, 1110, 1100 or 1000; last is 1111, 0111, 0011 or 0001."
 unfoldable pub enablesAllowed : Access → Bool
 enablesAllowed a =
     pick (eqb (a .length) 1) (eqb (a .last) 0b0000)

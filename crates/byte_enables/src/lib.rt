@@ -5,7 +5,8 @@ ghost use mathlib.Core.List.{List, [], _∷_};
 ghost use Rattle.bits.specs.Choice.{oneOf};
 ghost use Rattle.byte_enables.specs.Enables.{firstKinds, lastKinds, enablesAllowed, off, ending, trail, enablesAt, enabled, enabledBytes};
 
-// What the rules for enables look at: one request's address, its length in doublewords, and the enables of its first and last doubleword.
+// What the rules for enables look at: one request's address, its length in doublewords, and the enables of its first
+// and last doubleword.
 pub struct Access {
     pub address: u64,
     pub length: u32,

@@ -1,5 +1,5 @@
--- Document 01, rows 5 to 8 of the number table, over decoded values, so that the writer's "5 to 9 as above" is the same definition.
--- All to be believed.
+-- Document 01, rows 5 to 8 of the number table, over decoded values, so that the writer's "5 to 9 as above" is the same
+-- definition. All to be believed.
 use Prim.Native.Nat.{ℕ, _+_, _*_, _%_, _/_, _^_}
 use mathlib.Core.Bool.{Bool, true, false, _||_, _&&_, not}
 use mathlib.Core.List.{List, [], _∷_}

@@ -1,5 +1,6 @@
--- Document 01: "Reserved are all bits not named above; Length in Msg and Cpl; AT and TH in messages and completions; TH and Attr[2] in I/O and
--- configuration." A mask for each byte of a header, in which a set bit is one that is not reserved. All to be believed.
+-- Document 01: "Reserved are all bits not named above; Length in Msg and Cpl; AT and TH in messages and completions; TH
+-- and Attr[2] in I/O and configuration." A mask for each byte of a header, in which a set bit is one that is not
+-- reserved. All to be believed.
 use Prim.Native.Nat.{ℕ}
 use mathlib.Core.List.{List, [], _∷_, _++_}
 use lib.Bits.{bitAnd}

@@ -37,7 +37,8 @@ abbrev pub numbered : List Row → Bool
 numbered [] = true
 numbered (r ∷ rs) = leb 1 (r .number) && numbered rs
 
--- A number is given exactly when its row holds and no earlier one does, and none exactly when no row holds. Proved in proofs/RowLaws.antt.
+-- A number is given exactly when its row holds and no earlier one does, and none exactly when no row holds. Proved in
+-- proofs/RowLaws.antt.
 abbrev pub GivenExactly : Type 0
 GivenExactly = (rs : List Row) (n : ℕ) → 0 < n → (first rs ≡ n) ↔ Given n rs
 

@@ -13,4 +13,7 @@ boundaries = 64 ∷ 128 ∷ []
 
 -- whether every setting is in the list
 unfoldable pub settingsListed : Settings → Bool
-settingsListed settings = oneOf sizes (settings .mps) && (oneOf sizes (settings .mrrs) && oneOf boundaries (settings .rcb))
+settingsListed settings =
+    oneOf sizes (settings .mps)
+    && (oneOf sizes (settings .mrrs)
+    && oneOf boundaries (settings .rcb))

@@ -82,16 +82,16 @@ typed-rows c bytes t ok l e f =
     t f e
 
 module _ (bytes : List ℕ) (h : hasCompletion bytes ≡ true) where
-  both : (leb 12 (length bytes) ≡ true) × ((eqb (byte bytes 0) 0x4A || eqb (byte bytes 0) 0x0A) ≡ true)
+  header-and-type : (leb 12 (length bytes) ≡ true) × ((eqb (byte bytes 0) 0x4A || eqb (byte bytes 0) 0x0A) ≡ true)
   unfolding hasCompletion
-  both = and-eq-true-iff (leb 12 (length bytes)) (eqb (byte bytes 0) 0x4A || eqb (byte bytes 0) 0x0A) .0 h
+  header-and-type = and-eq-true-iff (leb 12 (length bytes)) (eqb (byte bytes 0) 0x4A || eqb (byte bytes 0) 0x0A) .0 h
 
   -- the first row that holds is 3 or 5
   pub completion-rows : (c : Settings) → settingsListed c ≡ true → first (readRows c bytes) ≡ first (completionRows (c .mps) (accessOf (completionIn bytes) .length) bytes)
   unfolding completionIn
-  completion-rows c ok = typed-rows c bytes (completionType (byte bytes 0)) ok (leb-true 12 (length bytes) (both .0)) (completion-type (byte bytes 0) (both .1)) (completion-family (byte bytes 0))
+  completion-rows c ok = typed-rows c bytes (completionType (byte bytes 0)) ok (leb-true 12 (length bytes) (header-and-type .0)) (completion-type (byte bytes 0) (header-and-type .1)) (completion-family (byte bytes 0))
 
   -- and the packet is the bytes as a completion
   pub completion-packet : packetAt (typeAt (byte bytes 0)) bytes ≡ completionIn bytes
   unfolding completionIn
-  completion-packet = rw (completion-type (byte bytes 0) (both .1))
+  completion-packet = rw (completion-type (byte bytes 0) (header-and-type .1))

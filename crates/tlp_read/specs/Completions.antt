@@ -1,4 +1,5 @@
--- A completion straight from its bytes. That reading says the same of them is proved in proofs/CompletionLaws.antt, so nothing here has to be believed.
+-- A completion straight from its bytes, as the promises of src/completion.rt say it. That reading says the same of the
+-- bytes is proved in proofs/CompletionLaws.antt.
 use Prim.Native.Nat.{ℕ, _+_, _*_}
 use mathlib.Core.Bool.{Bool, _&&_, _||_, not}
 use mathlib.Core.List.{List, [], _∷_}

@@ -1,5 +1,5 @@
--- Document 01, "Header layout": where each field of a header stands, then what the bytes of a packet of type t hold. A place past the end reads
--- as 0. All to be believed.
+-- Document 01, "Header layout": where each field of a header stands, then what the bytes of a packet of type t hold. A
+-- place past the end reads as 0. All to be believed.
 use Prim.Native.Nat.{ℕ, _+_, _-_, _*_, _/_, _%_, _^_}
 use mathlib.Core.Bool.{Bool, true, false}
 use mathlib.Core.List.{List}
@@ -176,7 +176,8 @@ messageRouteAt bytes =
     (pick (eqb (routingAt bytes) 2) (Id (routeIdAt bytes))
     (Implied (implicitAt (routingAt bytes))))
 
--- "by address; by ID (configuration by target, completion by requester ID, message routing 010 by bytes 8-9); or implicit"
+-- "by address; by ID (configuration by target, completion by requester ID, message routing 010 by bytes 8-9); or
+-- implicit"
 unfoldable pub routeAt : PacketType → List ℕ → Route
 routeAt MRd32 bytes = Address (addressAt 4 bytes)
 routeAt MRd64 bytes = Address (addressAt 8 bytes)

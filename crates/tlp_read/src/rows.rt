@@ -1,4 +1,5 @@
-// Rows 2 to 10 of the number table, over the bytes: one branch by family; what differs within a family is taken from byte 0.
+// Rows 2 to 10 of the number table, over the bytes: one branch by family; what differs within a family is taken from
+// byte 0.
 use crate::fields::address_type_at;
 use crate::fields::first_enables_at;
 use crate::fields::hint_at;

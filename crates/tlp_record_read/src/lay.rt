@@ -96,7 +96,8 @@ fn lay_sizes(digest: u32, n: u32, record: &mut [u8])
 // Byte count, the sender's ID and the enables.
 fn lay_count(count: u32, id: u16, first: u8, last: u8, record: &mut [u8])
     requires { ⌜ Room (now «record») ⌝ }
-    ensures { λ _. ⌜ now («record» .exit) ≡ put 32 (bytes 4 count ++ (bytes 2 id ++ (first ∷ last ∷ []))) (now («record» .entry)) ⌝ }
+    ensures { λ _. ⌜ now («record» .exit)
+        ≡ put 32 (bytes 4 count ++ (bytes 2 id ++ (first ∷ last ∷ []))) (now («record» .entry)) ⌝ }
 {
     let x = bytes32(count);
     let y = bytes16(id);
@@ -116,7 +117,8 @@ fn lay_front(
     record: &mut [u8],
 )
     requires { ⌜ Room (now «record») ⌝ }
-    ensures { λ _. ⌜ now («record» .exit) ≡ put 0 (frontRead kind attributes route tag code (now (packet .entry))) (now («record» .entry)) ⌝ }
+    ensures { λ _. ⌜ now («record» .exit)
+        ≡ put 0 (frontRead kind attributes route tag code (now (packet .entry))) (now («record» .entry)) ⌝ }
 {
     let poisoned = flag_of(poisoned_at(packet));
     let digest = flag_of(digest_at(packet));
@@ -146,7 +148,8 @@ fn kind_from(base: u8, packet: &[u8]) -> u8
 // Digest and length, then requester and enables.
 fn lay_request(digest: u32, n: u32, packet: &[u8], record: &mut [u8])
     requires { ⌜ Room (now «record») ⌝ }
-    ensures { λ _. ⌜ now («record» .exit) ≡ put 32 (requestPart (now (packet .entry))) (put 24 (sizesPart digest n) (now («record» .entry))) ⌝ }
+    ensures { λ _. ⌜ now («record» .exit)
+        ≡ put 32 (requestPart (now (packet .entry))) (put 24 (sizesPart digest n) (now («record» .entry))) ⌝ }
 {
     let first = first_enables_at(packet);
     let last = last_enables_at(packet);
@@ -159,7 +162,8 @@ fn lay_request(digest: u32, n: u32, packet: &[u8], record: &mut [u8])
 // The bytes of an address, its two low bits left out: no number is made of them.
 fn lay_bare(a: u8, b: u8, c: u8, d: u8, e: u8, f: u8, g: u8, h: u8, record: &mut [u8])
     requires { ⌜ Room (now «record») ⌝ }
-    ensures { λ _. ⌜ now («record» .exit) ≡ put 8 (bytes 8 (word 8 (a ∷ b ∷ c ∷ d ∷ e ∷ f ∷ g ∷ h ∷ []) 0 / 4 * 4)) (now («record» .entry)) ⌝ }
+    ensures { λ _. ⌜ now («record» .exit)
+        ≡ put 8 (bytes 8 (word 8 (a ∷ b ∷ c ∷ d ∷ e ∷ f ∷ g ∷ h ∷ []) 0 / 4 * 4)) (now («record» .entry)) ⌝ }
 {
     lay_bytes(8, a, b, c, d, e, f, g, h / 4 * 4, record);
 }
@@ -167,7 +171,8 @@ fn lay_bare(a: u8, b: u8, c: u8, d: u8, e: u8, f: u8, g: u8, h: u8, record: &mut
 fn lay_wide(packet: &[u8], record: &mut [u8])
     requires { ⌜ 16 ≤ length (now packet) ⌝ }
     requires { ⌜ Room (now «record») ⌝ }
-    ensures { λ _. ⌜ now («record» .exit) ≡ put 8 (bytes 8 (addressAt 8 (now (packet .entry)))) (now («record» .entry)) ⌝ }
+    ensures { λ _. ⌜ now («record» .exit)
+        ≡ put 8 (bytes 8 (addressAt 8 (now (packet .entry)))) (now («record» .entry)) ⌝ }
 {
     lay_bare(
         packet[8],
@@ -185,7 +190,8 @@ fn lay_wide(packet: &[u8], record: &mut [u8])
 fn lay_narrow(packet: &[u8], record: &mut [u8])
     requires { ⌜ 12 ≤ length (now packet) ⌝ }
     requires { ⌜ Room (now «record») ⌝ }
-    ensures { λ _. ⌜ now («record» .exit) ≡ put 8 (bytes 8 (addressAt 4 (now (packet .entry)))) (now («record» .entry)) ⌝ }
+    ensures { λ _. ⌜ now («record» .exit)
+        ≡ put 8 (bytes 8 (addressAt 4 (now (packet .entry)))) (now («record» .entry)) ⌝ }
 {
     lay_bare(
         0,
@@ -204,7 +210,8 @@ fn lay_address(packet: &[u8], record: &mut [u8])
     requires { ⌜ familyAt (now packet) ≡ Family.Memory ⌝ }
     requires { ⌜ HeaderThere (now packet) ⌝ }
     requires { ⌜ Room (now «record») ⌝ }
-    ensures { λ _. ⌜ now («record» .exit) ≡ put 8 (bytes 8 (addressRead (now (packet .entry)))) (now («record» .entry)) ⌝ }
+    ensures { λ _. ⌜ now («record» .exit)
+        ≡ put 8 (bytes 8 (addressRead (now (packet .entry)))) (now («record» .entry)) ⌝ }
 {
     if is_wide(byte_at(packet, 0)) {
         lay_wide(packet, record);
@@ -339,7 +346,8 @@ fn message_value(packet: &[u8]) -> u64
 // Digest and length, then byte count and the sender's ID; no enables.
 fn lay_counted(digest: u32, n: u32, count: u32, id: u16, record: &mut [u8])
     requires { ⌜ Room (now «record») ⌝ }
-    ensures { λ _. ⌜ now («record» .exit) ≡ put 32 (countedPart count id) (put 24 (sizesPart digest n) (now («record» .entry))) ⌝ }
+    ensures { λ _. ⌜ now («record» .exit)
+        ≡ put 32 (countedPart count id) (put 24 (sizesPart digest n) (now («record» .entry))) ⌝ }
 {
     lay_sizes(digest, n, record);
     lay_count(count, id, 0, 0, record);

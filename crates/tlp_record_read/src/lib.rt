@@ -11,10 +11,12 @@ ghost use lib.ListN.{length};
 ghost use Rattle.tlp_read.specs.Read.{readPacket};
 ghost use Rattle.tlp_record_read.specs.RecordRead.{readNumber, readRecord};
 
-// The packet's record over the front of what is lent for it, or the first number that is given, with the record as it was.
+// The packet's record over the front of what is lent for it, or the first number that is given, with the record as it
+// was.
 pub fn read_record(settings: Settings, packet: &[u8], record: &mut [u8]) -> u32
     ensures { λ r. ⌜ r ≡ readNumber (readPacket settings (now (packet .entry))) (length (now («record» .entry))) ⌝ }
-    ensures { λ _. ⌜ now («record» .exit) ≡ readRecord (readPacket settings (now (packet .entry))) (now («record» .entry)) ⌝ }
+    ensures { λ _. ⌜ now («record» .exit)
+        ≡ readRecord (readPacket settings (now (packet .entry))) (now («record» .entry)) ⌝ }
 {
     let n = read_number(settings, packet);
     if n != 0 {

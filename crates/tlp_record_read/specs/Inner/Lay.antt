@@ -18,7 +18,8 @@ Room out = 48 ≤ length out
 -- bytes 0 to 7
 abbrev pub frontRead : ℕ → ℕ → ℕ → ℕ → ℕ → List ℕ → List ℕ
 frontRead kind attributes route tag code packet =
-    kind ∷ trafficClassAt packet ∷ attributes ∷ flag (poisonedAt packet) ∷ flag (digestAt packet) ∷ route ∷ tag ∷ code ∷ []
+    kind ∷ trafficClassAt packet ∷ attributes ∷ flag (poisonedAt packet) ∷ flag (digestAt packet)
+    ∷ route ∷ tag ∷ code ∷ []
 
 -- 1 where data follows the header
 abbrev pub dataFlag : List ℕ → ℕ
@@ -35,7 +36,8 @@ lengthGiven packet = pick (hasData (packetTypeAt packet)) (lengthAt packet) 0
 -- bytes 0 to 7 of a message
 abbrev pub messageFront : List ℕ → List ℕ
 messageFront packet =
-    frontRead (9 + dataFlag packet) (allAttributesAt packet) (routeCase (messageRouteAt packet)) (tagAt packet) (codeAt packet) packet
+    frontRead (9 + dataFlag packet) (allAttributesAt packet) (routeCase (messageRouteAt packet))
+    (tagAt packet) (codeAt packet) packet
 
 -- bytes 32 to 39 of a request
 abbrev pub requestPart : List ℕ → List ℕ
@@ -51,7 +53,8 @@ registersPart packet = extendedRegisterAt packet ∷ registerAt packet ∷ 0 ∷
 
 -- bytes 40 to 47 of a completion
 abbrev pub statusPart : List ℕ → List ℕ
-statusPart packet = 0 ∷ 0 ∷ statusAt packet ∷ flag (byteCountModifiedAt packet) ∷ lowerAddressFieldAt packet ∷ 0 ∷ 0 ∷ 0 ∷ []
+statusPart packet =
+    0 ∷ 0 ∷ statusAt packet ∷ flag (byteCountModifiedAt packet) ∷ lowerAddressFieldAt packet ∷ 0 ∷ 0 ∷ 0 ∷ []
 
 -- the record of the packet in the bytes
 abbrev pub recordRead : List ℕ → List ℕ
