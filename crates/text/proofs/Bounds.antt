@@ -17,8 +17,8 @@ use Rattle.text.specs.Digit.{allDigits}
 use Rattle.text.specs.Number.{value, plain, plainly, empty, numberIn}
 use Rattle.text.specs.Hex.{hexNumber, spelledAnswer}
 use Rattle.text.specs.Decimal.{decimalNumber}
-use Rattle.text.specs.Words.{wordLength, wordEnd, startsWith, valueAt}
-use Rattle.text.specs.Fields.{badField, parsedField, between, parsedIn, fixedHex, decimalAfter, hexAfter}
+use Rattle.text.specs.Words.{part, wordLength, wordEnd, startsWith, valueAt}
+use Rattle.text.specs.Fields.{badField, parsedField, parsedIn, fixedHex, decimalAfter, hexAfter}
 use Rattle.text.specs.declared.number.Parsed.{Parsed}
 use Rattle.text.specs.declared.number.Parsed.the-variants.{Number, Bad}
 use Rattle.text.specs.declared.hex.Spelled.{Spelled}
@@ -45,50 +45,50 @@ number-is v n e = cc
 
 -- ---- numbers
 
-plainly-is : (s : List ℕ) (p : Parsed) (n : ℕ) → plainly s p ≡ Number n → p ≡ Number n
+plainly-is : (text : List ℕ) (p : Parsed) (n : ℕ) → plainly text p ≡ Number n → p ≡ Number n
 unfolding plainly
-plainly-is s p n e = picked Bad p (plain s) (Number n) e (number-good n) .1
+plainly-is text p n e = picked Bad p (plain text) (Number n) e (number-good n) .1
 
 -- a number read as decimal is below k, where most is
-pub decimal-lt : (most n k : ℕ) (s : List ℕ) (p : Parsed) → p ≡ decimalNumber most s → p ≡ Number n → ltb most k ≡ true → n < k
+pub decimal-lt : (most n k : ℕ) (text : List ℕ) (p : Parsed) → p ≡ decimalNumber most text → p ≡ Number n → ltb most k ≡ true → n < k
 unfolding numberIn
-decimal-lt most n k s p d e h =
-    let f = picked Bad (Number (value 10 s)) (not (empty s) && (allDigits 10 s && leb (value 10 s) most)) (Number n) (plainly-is s (numberIn 10 most s) n (sym d ∙ e)) (number-good n) in
-    omega (arith, number-is (value 10 s) n (f .1), leb-true (value 10 s) most (and-right (allDigits 10 s) _ (and-right (not (empty s)) _ (f .0))), ltb-true most k h)
+decimal-lt most n k text p d e h =
+    let f = picked Bad (Number (value 10 text)) (not (empty text) && (allDigits 10 text && leb (value 10 text) most)) (Number n) (plainly-is text (numberIn 10 most text) n (sym d ∙ e)) (number-good n) in
+    omega (arith, number-is (value 10 text) n (f .1), leb-true (value 10 text) most (and-right (allDigits 10 text) _ (and-right (not (empty text)) _ (f .0))), ltb-true most k h)
 
 -- a number of w hexadecimal digits is below k, where 16 ^ w is not above it
-pub hex-lt : (n w k : ℕ) (s : List ℕ) (p : Parsed) → p ≡ hexNumber s → p ≡ Number n → length s ≡ w → leb (16 ^ w) k ≡ true → n < k
+pub hex-lt : (n w k : ℕ) (text : List ℕ) (p : Parsed) → p ≡ hexNumber text → p ≡ Number n → length text ≡ w → leb (16 ^ w) k ≡ true → n < k
 unfolding hexNumber
-hex-lt n w k s p d e l h =
-    let f = picked Bad (Number (value 16 s)) (not (empty s) && (leb (length s) 16 && allDigits 16 s)) (Number n) (sym d ∙ e) (number-good n) in
-    omega (arith, number-is (value 16 s) n (f .1), ap (λ (m : ℕ). 16 ^ m) l, value-lt 16 0 s (and-right (leb (length s) 16) _ (and-right (not (empty s)) _ (f .0))), leb-true (16 ^ w) k h)
+hex-lt n w k text p d e l h =
+    let f = picked Bad (Number (value 16 text)) (not (empty text) && (leb (length text) 16 && allDigits 16 text)) (Number n) (sym d ∙ e) (number-good n) in
+    omega (arith, number-is (value 16 text) n (f .1), ap (λ (m : ℕ). 16 ^ m) l, value-lt 16 0 text (and-right (leb (length text) 16) _ (and-right (not (empty text)) _ (f .0))), leb-true (16 ^ w) k h)
 
 -- ---- words
 
-word-le : (s : List ℕ) → wordLength s ≤ length s
+word-le : (text : List ℕ) → wordLength text ≤ length text
 unfolding wordLength
 word-le [] = zero-le
-word-le (b ∷ s) = word-le-by (eqb b 32) (wordLength s) (length s) (word-le s)
+word-le (b ∷ text) = word-le-by (eqb b 32) (wordLength text) (length text) (word-le text)
   where
     word-le-by : (t : Bool) (m n : ℕ) → m ≤ n → pick t 0 (suc m) ≤ suc n
     word-le-by true m n h = zero-le
     word-le-by false m n h = omega arith
 
-pub end-le : (s : List ℕ) (at : ℕ) → wordEnd s at ≤ length s
+pub end-le : (text : List ℕ) (at : ℕ) → wordEnd text at ≤ length text
 unfolding wordEnd
-end-le s at = omega (arith, word-le (drop at s), length-drop at s)
+end-le text at = omega (arith, word-le (drop at text), length-drop at text)
 
 pub found-good : (from to : ℕ) → Missing ≡ Found from to → ⊥
 found-good from to e = let z : _≡_ {A = ℕ} 0 1 = cc in omega arith
 
-pub found-bounds : (s key : List ℕ) (at from to : ℕ) (v : Value) → v ≡ valueAt s at key → v ≡ Found from to → (at + length key ≡ from) × ((from ≤ to) × (to ≤ length s))
+pub found-bounds : (text key : List ℕ) (at from to : ℕ) (v : Value) → v ≡ valueAt text at key → v ≡ Found from to → (at + length key ≡ from) × ((from ≤ to) × (to ≤ length text))
 unfolding valueAt wordEnd
-found-bounds s key at from to v d e =
-    let f = picked Missing (Found (at + length key) (wordEnd s (at + length key))) (startsWith s at key) (Found from to) (sym d ∙ e) (found-good from to) in
-    let l : at + length key ≤ length s = starts-le s key at (startsWith s at key) refl (rw (f .0)) in
+found-bounds text key at from to v d e =
+    let f = picked Missing (Found (at + length key) (wordEnd text (at + length key))) (startsWith text at key) (Found from to) (sym d ∙ e) (found-good from to) in
+    let l : at + length key ≤ length text = starts-le text key at (startsWith text at key) refl (rw (f .0)) in
     let a : at + length key ≡ from = cc (f .1) in
-    let z : wordEnd s (at + length key) ≡ to = cc (f .1) in
-    (a, (omega arith, omega (arith, end-le s (at + length key))))
+    let z : wordEnd text (at + length key) ≡ to = cc (f .1) in
+    (a, (omega arith, omega (arith, end-le text (at + length key))))
 
 -- ---- fields
 
@@ -104,33 +104,33 @@ parsed-lt Bad q next k e z h = z
 some-16 : (width : ℕ) → 0 < 16 ^ width
 some-16 width = one-le-pow width 16 (zero-lt-suc 15)
 
-module _ (s key : List ℕ) (before r : Field) where
-  decimal-in-lt : (most : ℕ) (v : Value) → parsedIn (decimalNumber most) s v .value < suc most
+module _ (text key : List ℕ) (before r : Field) where
+  decimal-in-lt : (most : ℕ) (v : Value) → parsedIn (decimalNumber most) text v .value < suc most
   decimal-in-lt most (Found from to) =
-      let p : Parsed = decimalNumber most (between s from to) in
-      parsed-lt p p to (suc most) refl (omega arith) (λ (n : ℕ) (h : p ≡ Number n). decimal-lt most n (suc most) (between s from to) p refl h (lt-ltb most (suc most) (omega arith)))
+      let p : Parsed = decimalNumber most (part text from to) in
+      parsed-lt p p to (suc most) refl (omega arith) (λ (n : ℕ) (h : p ≡ Number n). decimal-lt most n (suc most) (part text from to) p refl h (lt-ltb most (suc most) (omega arith)))
   decimal-in-lt most Missing = omega arith
 
-  pub decimal-after-le : (most : ℕ) → r ≡ decimalAfter s before key most → r .value ≤ most
+  pub decimal-after-le : (most : ℕ) → r ≡ decimalAfter text before key most → r .value ≤ most
   unfolding decimalAfter
   decimal-after-le most e =
-      let v : Value = valueAt s (before .next) key in
-      omega (arith, ap (λ (f : Field). f .value) e, bad-or (before .good) (parsedIn (decimalNumber most) s v) (suc most) (omega arith) (λ (g : before .good ≡ true). decimal-in-lt most v))
+      let v : Value = valueAt text (before .next) key in
+      omega (arith, ap (λ (f : Field). f .value) e, bad-or (before .good) (parsedIn (decimalNumber most) text v) (suc most) (omega arith) (λ (g : before .good ≡ true). decimal-in-lt most v))
 
-  hex-in-lt : (width : ℕ) (v : Value) → parsedIn (fixedHex width) s v .value < 16 ^ width
+  hex-in-lt : (width : ℕ) (v : Value) → parsedIn (fixedHex width) text v .value < 16 ^ width
   hex-in-lt width (Found from to) =
-      let digits : List ℕ = between s from to in
+      let digits : List ℕ = part text from to in
       let p : Parsed = fixedHex width digits in
       parsed-lt p p to (16 ^ width) refl (some-16 width) (λ (n : ℕ) (h : p ≡ Number n).
       let f = picked Bad (hexNumber digits) (eqb (length digits) width) (Number n) h (number-good n) in
       hex-lt n width (16 ^ width) digits (hexNumber digits) refl (f .1) (eqb-true (length digits) width (f .0)) (le-leb (16 ^ width) (16 ^ width) (omega arith)))
   hex-in-lt width Missing = some-16 width
 
-  pub hex-after-lt : (width : ℕ) → r ≡ hexAfter s before key width → r .value < 16 ^ width
+  pub hex-after-lt : (width : ℕ) → r ≡ hexAfter text before key width → r .value < 16 ^ width
   unfolding hexAfter
   hex-after-lt width e =
-      let v : Value = valueAt s (before .next) key in
-      omega (arith, ap (λ (f : Field). f .value) e, bad-or (before .good) (parsedIn (fixedHex width) s v) (16 ^ width) (some-16 width) (λ (g : before .good ≡ true). hex-in-lt width v))
+      let v : Value = valueAt text (before .next) key in
+      omega (arith, ap (λ (f : Field). f .value) e, bad-or (before .good) (parsedIn (fixedHex width) text v) (16 ^ width) (some-16 width) (λ (g : before .good ≡ true). hex-in-lt width v))
 
 -- ---- outputs
 

@@ -13,25 +13,25 @@ use Rattle.text.proofs.WordLaws.{clipped}
 
 -- ---- the first k of n bytes moved; those that are still to move stand where they stood
 
-pub move-start : (a n : ℕ) (s : List ℕ) → put 0 (take (n - 0) (drop (a + 0) s)) s ≡ put 0 (take n (drop a s)) s
-move-start a n s = rw (add-zero a, sub-zero n)
+pub move-start : (a n : ℕ) (buf : List ℕ) → put 0 (take (n - 0) (drop (a + 0) buf)) buf ≡ put 0 (take n (drop a buf)) buf
+move-start a n buf = rw (add-zero a, sub-zero n)
 
-module _ (a n k : ℕ) (s whole : List ℕ) (q : put k (take (n - k) (drop (a + k) s)) s ≡ whole) where
-  pub move-next : (e : ℕ) (s₀ : List ℕ) → k < n → n ≡ e - a → e ≤ length s₀ → length s ≡ length s₀
-      → put (k + 1) (take (n - (k + 1)) (drop (a + (k + 1)) (set s k (getD s (a + k) 0)))) (set s k (getD s (a + k) 0)) ≡ whole
-  move-next e s₀ h f g z =
-      let d = getD s (a + k) 0 in
+module _ (a n k : ℕ) (buf whole : List ℕ) (q : put k (take (n - k) (drop (a + k) buf)) buf ≡ whole) where
+  pub move-next : (e : ℕ) (buf₀ : List ℕ) → k < n → n ≡ e - a → e ≤ length buf₀ → length buf ≡ length buf₀
+      → put (k + 1) (take (n - (k + 1)) (drop (a + (k + 1)) (set buf k (getD buf (a + k) 0)))) (set buf k (getD buf (a + k) 0)) ≡ whole
+  move-next e buf₀ h f g z =
+      let d = getD buf (a + k) 0 in
       let i : a + (k + 1) ≡ suc (a + k) = omega arith in
       let m : n - k ≡ suc (n - (k + 1)) = omega arith in
-      rw (i, drop-set-lt (suc (a + k)) s k d (omega arith), put-first k d (take (n - (k + 1)) (drop (suc (a + k)) s)) s (omega arith)) (rw (m, drop-cons s (a + k) 0 (omega arith)) at q)
+      rw (i, drop-set-lt (suc (a + k)) buf k d (omega arith), put-first k d (take (n - (k + 1)) (drop (suc (a + k)) buf)) buf (omega arith)) (rw (m, drop-cons buf (a + k) 0 (omega arith)) at q)
 
-  move-done : n ≤ k → s ≡ whole
-  move-done h = sym (put-done k s) ∙ (rw (sub-eq-zero-of-le h) at q)
+  move-done : n ≤ k → buf ≡ whole
+  move-done h = sym (put-done k buf) ∙ (rw (sub-eq-zero-of-le h) at q)
 
 -- all of them moved
-pub moved : (from to e a n k : ℕ) (s₀ s : List ℕ) → e ≡ min to (length s₀) → a ≡ min from e → n ≡ e - a
-    → put k (take (n - k) (drop (a + k) s)) s ≡ put 0 (take n (drop a s₀)) s₀ → n ≤ k → s ≡ movedToFront from to s₀
+pub moved : (from to e a n k : ℕ) (buf₀ buf : List ℕ) → e ≡ min to (length buf₀) → a ≡ min from e → n ≡ e - a
+    → put k (take (n - k) (drop (a + k) buf)) buf ≡ put 0 (take n (drop a buf₀)) buf₀ → n ≤ k → buf ≡ movedToFront from to buf₀
 unfolding movedToFront
-moved from to e a n k s₀ s f g m q h = rw (m, clipped s₀ from to e a f g) at (move-done a n k s (put 0 (take n (drop a s₀)) s₀) q h)
+moved from to e a n k buf₀ buf f g m q h = rw (m, clipped buf₀ from to e a f g) at (move-done a n k buf (put 0 (take n (drop a buf₀)) buf₀) q h)
 
 pub ruleset move-laws = (move-start, move-next, moved)

@@ -74,25 +74,25 @@ value-digit n =
 
 -- the first digit of those from index i on
 
-module _ (base i : ℕ) (s : List ℕ) where
-  pub digits-first : i < length s → allDigits base (drop i s) ≡ (ltb (hexValue (getD s i 0)) base && allDigits base (drop (i + 1) s))
+module _ (base i : ℕ) (text : List ℕ) where
+  pub digits-first : i < length text → allDigits base (drop i text) ≡ (ltb (hexValue (getD text i 0)) base && allDigits base (drop (i + 1) text))
   unfolding allDigits
-  digits-first h = rw (drop-cons s i 0 h, add-one i)
+  digits-first h = rw (drop-cons text i 0 h, add-one i)
 
-  pub digit-small : i < length s → allDigits base (drop i s) ≡ true → hexValue (getD s i 0) < base
+  pub digit-small : i < length text → allDigits base (drop i text) ≡ true → hexValue (getD text i 0) < base
   digit-small h a = ltb-true _ _ (and-left _ _ (sym (digits-first h) ∙ a))
 
-  pub digits-rest : i < length s → allDigits base (drop i s) ≡ true → allDigits base (drop (i + 1) s) ≡ true
-  digits-rest h a = and-right (ltb (hexValue (getD s i 0)) base) _ (sym (digits-first h) ∙ a)
+  pub digits-rest : i < length text → allDigits base (drop i text) ≡ true → allDigits base (drop (i + 1) text) ≡ true
+  digits-rest h a = and-right (ltb (hexValue (getD text i 0)) base) _ (sym (digits-first h) ∙ a)
 
 -- one law for each place of a scan without an early answer, where good says whether the digits before index i are good
 
-module _ (base i : ℕ) (s : List ℕ) (good t : Bool) (a : good && allDigits base (drop i s) ≡ t) where
-  pub scan-done : length s ≤ i → good ≡ t
+module _ (base i : ℕ) (text : List ℕ) (good t : Bool) (a : good && allDigits base (drop i text) ≡ t) where
+  pub scan-done : length text ≤ i → good ≡ t
   unfolding allDigits
-  scan-done h = sym (and-true good) ∙ (rw (drop-of-length-le s h) at a)
+  scan-done h = sym (and-true good) ∙ (rw (drop-of-length-le text h) at a)
 
-  pub scan-next : (d : ℕ) → d ≡ hexValue (getD s i 0) → i < length s → (good && ltb d base) && allDigits base (drop (i + 1) s) ≡ t
-  scan-next d e h = rw (e, and-assoc good (ltb (hexValue (getD s i 0)) base) (allDigits base (drop (i + 1) s)), ← digits-first base i s h) a
+  pub scan-next : (d : ℕ) → d ≡ hexValue (getD text i 0) → i < length text → (good && ltb d base) && allDigits base (drop (i + 1) text) ≡ t
+  scan-next d e h = rw (e, and-assoc good (ltb (hexValue (getD text i 0)) base) (allDigits base (drop (i + 1) text)), ← digits-first base i text h) a
 
 pub ruleset scan-laws = (scan-done, scan-next)

@@ -57,96 +57,96 @@ digit-no-space b h = ne-eqb b 32 (λ (e : b ≡ 32). omega (arith, value-below b
 -- ---- digits of a base
 
 module _ (base : ℕ) (p : 1 < base) (q : base ≤ 16) where
-  digits-from : (k v : ℕ) (s : List ℕ) → allDigits base s ≡ true → digits base (length s + k) (valueFrom base v s) ≡ digits base k v ++ s
+  digits-from : (k v : ℕ) (text : List ℕ) → allDigits base text ≡ true → digits base (length text + k) (valueFrom base v text) ≡ digits base k v ++ text
   unfolding allDigits valueFrom digits
   digits-from k v [] a =
       let z : 0 + k ≡ k = omega arith in
       rw z (sym (append-nil (digits base k v)))
-  digits-from k v (b ∷ s) a =
+  digits-from k v (b ∷ text) a =
       let d : hexValue b < base = ltb-true (hexValue b) base (and-left _ _ a) in
-      let r : length (b ∷ s) + k ≡ length s + suc k = omega arith in
+      let r : length (b ∷ text) + k ≡ length text + suc k = omega arith in
       let m : hexDigit (hexValue b) ≡ b = digit-value (hexValue b) b (omega arith) (omega arith) in
       rw r
-      (digits-from (suc k) (v * base + hexValue b) s (and-right (ltb (hexValue b) base) _ a)
-      ∙ rw (digits-div v d, digits-mod v d, m, append-assoc (digits base k v) (b ∷ []) s))
+      (digits-from (suc k) (v * base + hexValue b) text (and-right (ltb (hexValue b) base) _ a)
+      ∙ rw (digits-div v d, digits-mod v d, m, append-assoc (digits base k v) (b ∷ []) text))
 
   -- as many digits of the value as there are
-  pub digits-all : (s : List ℕ) → allDigits base s ≡ true → digits base (length s) (value base s) ≡ s
+  pub digits-all : (text : List ℕ) → allDigits base text ≡ true → digits base (length text) (value base text) ≡ text
   unfolding digits
-  digits-all s a =
-      let z : length s + 0 ≡ length s = omega arith in
-      rw z at (digits-from 0 0 s a)
+  digits-all text a =
+      let z : length text + 0 ≡ length text = omega arith in
+      rw z at (digits-from 0 0 text a)
 
   -- digits after v mean at least v, moved up
-  value-ge : (v : ℕ) (s : List ℕ) → v * base ^ length s ≤ valueFrom base v s
+  value-ge : (v : ℕ) (text : List ℕ) → v * base ^ length text ≤ valueFrom base v text
   unfolding valueFrom
   value-ge v [] = rw (pow-zero base) (omega arith)
-  value-ge v (b ∷ s) =
-      let k : v * base * base ^ length s ≤ (v * base + hexValue b) * base ^ length s = mul-le-mul-right (base ^ length s) (omega arith) in
-      le-trans (rw (pow-suc base (length s), mul-comm (base ^ length s) base, ← mul-assoc v base (base ^ length s)) k) (value-ge (v * base + hexValue b) s)
+  value-ge v (b ∷ text) =
+      let k : v * base * base ^ length text ≤ (v * base + hexValue b) * base ^ length text = mul-le-mul-right (base ^ length text) (omega arith) in
+      le-trans (rw (pow-suc base (length text), mul-comm (base ^ length text) base, ← mul-assoc v base (base ^ length text)) k) (value-ge (v * base + hexValue b) text)
 
   -- a number has as many digits as it is written with after a first one that is not 0
-  count-all : (b : ℕ) (s : List ℕ) → allDigits base (b ∷ s) ≡ true → 0 < hexValue b → value base (b ∷ s) < 2 ^ 64 → digitCount base (value base (b ∷ s)) ≡ length (b ∷ s)
+  count-all : (b : ℕ) (text : List ℕ) → allDigits base (b ∷ text) ≡ true → 0 < hexValue b → value base (b ∷ text) < 2 ^ 64 → digitCount base (value base (b ∷ text)) ≡ length (b ∷ text)
   unfolding valueFrom
-  count-all b s a f h =
-      let n = value base (b ∷ s) in
+  count-all b text a f h =
+      let n = value base (b ∷ text) in
       let c = digitCount base n in
-      let u : c ≤ suc (length s) = count-le base p 64 (length s) n (omega (arith, value-lt base 0 (b ∷ s) a)) in
+      let u : c ≤ suc (length text) = count-le base p 64 (length text) n (omega (arith, value-lt base 0 (b ∷ text) a)) in
       let w : n < base ^ c = count-power base p 64 n (in-64 base p n h) in
-      let g : 1 * base ^ length s ≤ (0 * base + hexValue b) * base ^ length s = mul-le-mul-right (base ^ length s) (omega arith) in
-      let l : base ^ length s ≤ n = omega (arith, g, value-ge (0 * base + hexValue b) s) in
+      let g : 1 * base ^ length text ≤ (0 * base + hexValue b) * base ^ length text = mul-le-mul-right (base ^ length text) (omega arith) in
+      let l : base ^ length text ≤ n = omega (arith, g, value-ge (0 * base + hexValue b) text) in
       ⊎-elim
-      (λ (k : length s < c). omega arith)
-      (λ (k : c ≤ length s). absurd (omega (arith, w, l, pow-le-pow-right {n = base} (omega arith) {i = c} {j = length s} k)))
-      (lt-or-le (length s) c)
+      (λ (k : length text < c). omega arith)
+      (λ (k : c ≤ length text). absurd (omega (arith, w, l, pow-le-pow-right {n = base} (omega arith) {i = c} {j = length text} k)))
+      (lt-or-le (length text) c)
 
   -- digits without leading zeros are the text of their value
-  pub plain-all : (s : List ℕ) → empty s ≡ false → plain s ≡ true → allDigits base s ≡ true → value base s < 2 ^ 64 → s ≡ plainText base (value base s)
+  pub plain-all : (text : List ℕ) → empty text ≡ false → plain text ≡ true → allDigits base text ≡ true → value base text < 2 ^ 64 → text ≡ plainText base (value base text)
   unfolding empty plain
   plain-all [] e f a h = absurd (false≢true (sym e))
   plain-all (b ∷ []) e f a h =
       let w : value base (b ∷ []) < (0 + 1) * base ^ 1 = value-lt base 0 (b ∷ []) a in
       let l : value base (b ∷ []) < base = omega (arith, w, one-power base p) in
       rw (count-one base p (value base (b ∷ [])) l) (sym (digits-all (b ∷ []) a))
-  plain-all (b ∷ c ∷ s) e f a h =
+  plain-all (b ∷ c ∷ text) e f a h =
       let z : 0 < hexValue b = ⊎-elim (λ (k : 0 < hexValue b). k) (λ (k : hexValue b ≤ 0). absurd (false≢true (sym (ap not (eq-eqb (hexValue b) 0 (omega arith))) ∙ f))) (lt-or-le 0 (hexValue b)) in
-      rw (count-all b (c ∷ s) a z h) (sym (digits-all (b ∷ c ∷ s) a))
+      rw (count-all b (c ∷ text) a z h) (sym (digits-all (b ∷ c ∷ text) a))
 
 -- ---- numbers
 
 -- a decimal that reads as n is the text of n
-pub decimal-is : (most n : ℕ) (s : List ℕ) → most < 2 ^ 64 → decimalNumber most s ≡ Number n → (s ≡ decimalText n) × (n ≤ most)
+pub decimal-is : (most n : ℕ) (text : List ℕ) → most < 2 ^ 64 → decimalNumber most text ≡ Number n → (text ≡ decimalText n) × (n ≤ most)
 unfolding plainly numberIn
-decimal-is most n s m e =
-    let g = picked Bad (numberIn 10 most s) (plain s) (Number n) e (number-good n) in
-    let f = picked Bad (Number (value 10 s)) (not (empty s) && (allDigits 10 s && leb (value 10 s) most)) (Number n) (g .1) (number-good n) in
-    let v : value 10 s ≡ n = number-is (value 10 s) n (f .1) in
-    let r = and-right (not (empty s)) _ (f .0) in
-    let l : value 10 s ≤ most = leb-true (value 10 s) most (and-right (allDigits 10 s) _ r) in
-    (rw (← v) (plain-all 10 (omega arith) (omega arith) s (not-true (empty s) (and-left _ _ (f .0))) (g .0) (and-left _ _ r) (omega (arith, l))), rw (← v) l)
+decimal-is most n text m e =
+    let g = picked Bad (numberIn 10 most text) (plain text) (Number n) e (number-good n) in
+    let f = picked Bad (Number (value 10 text)) (not (empty text) && (allDigits 10 text && leb (value 10 text) most)) (Number n) (g .1) (number-good n) in
+    let v : value 10 text ≡ n = number-is (value 10 text) n (f .1) in
+    let r = and-right (not (empty text)) _ (f .0) in
+    let l : value 10 text ≤ most = leb-true (value 10 text) most (and-right (allDigits 10 text) _ r) in
+    (rw (← v) (plain-all 10 (omega arith) (omega arith) text (not-true (empty text) (and-left _ _ (f .0))) (g .0) (and-left _ _ r) (omega (arith, l))), rw (← v) l)
 
 -- a number of hexadecimal digits is written with so many of them
-pub hex-is : (n : ℕ) (s : List ℕ) → hexNumber s ≡ Number n → (s ≡ digits 16 (length s) n) × (n < 16 ^ length s)
+pub hex-is : (n : ℕ) (text : List ℕ) → hexNumber text ≡ Number n → (text ≡ digits 16 (length text) n) × (n < 16 ^ length text)
 unfolding hexNumber
-hex-is n s e =
-    let f = picked Bad (Number (value 16 s)) (not (empty s) && (leb (length s) 16 && allDigits 16 s)) (Number n) e (number-good n) in
-    let v : value 16 s ≡ n = number-is (value 16 s) n (f .1) in
-    let a : allDigits 16 s ≡ true = and-right (leb (length s) 16) _ (and-right (not (empty s)) _ (f .0)) in
-    (sym (rw v at (digits-all 16 (omega arith) (omega arith) s a)), omega (arith, v, value-lt 16 0 s a))
+hex-is n text e =
+    let f = picked Bad (Number (value 16 text)) (not (empty text) && (leb (length text) 16 && allDigits 16 text)) (Number n) e (number-good n) in
+    let v : value 16 text ≡ n = number-is (value 16 text) n (f .1) in
+    let a : allDigits 16 text ≡ true = and-right (leb (length text) 16) _ (and-right (not (empty text)) _ (f .0)) in
+    (sym (rw v at (digits-all 16 (omega arith) (omega arith) text a)), omega (arith, v, value-lt 16 0 text a))
 
 -- ---- bytes
 
-text-pairs : (s : List ℕ) → length s % 2 ≡ 0 → allDigits 16 s ≡ true → (s ≡ hexText (pairs s)) × AllBytes (pairs s)
+text-pairs : (text : List ℕ) → length text % 2 ≡ 0 → allDigits 16 text ≡ true → (text ≡ hexText (pairs text)) × AllBytes (pairs text)
 unfolding allDigits pairs hexText
 text-pairs [] z a = (refl, λ (i : ℕ) (h : i < 0). absurd (omega arith))
 text-pairs (x ∷ []) z a = absurd (omega arith)
-text-pairs (x ∷ y ∷ s) z a =
+text-pairs (x ∷ y ∷ text) z a =
     let h : hexValue x < 16 = ltb-true (hexValue x) 16 (and-left _ _ a) in
     let r = and-right (ltb (hexValue x) 16) _ a in
     let l : hexValue y < 16 = ltb-true (hexValue y) 16 (and-left _ _ r) in
-    let t = text-pairs s (omega arith) (and-right (ltb (hexValue y) 16) _ r) in
+    let t = text-pairs text (omega arith) (and-right (ltb (hexValue y) 16) _ r) in
     let b = hexValue x * 16 + hexValue y in
-    let small : AllBytes (b ∷ pairs s) = first b (pairs s) (omega arith) (t .1) in
+    let small : AllBytes (b ∷ pairs text) = first b (pairs text) (omega arith) (t .1) in
     (rw (digit-value (b / 16) x (omega arith) h, digit-value b y (omega arith) l, ← t .0), small)
   where
     first : (b : ℕ) (bytes : List ℕ) → b < 256 → AllBytes bytes → AllBytes (b ∷ bytes)
@@ -154,9 +154,9 @@ text-pairs (x ∷ y ∷ s) z a =
     first b bytes h t (suc i) l = t i (omega arith)
 
 -- what spells bytes is their text
-pub bytes-is : (s bytes : List ℕ) → bytesSpelled s ≡ some bytes → (s ≡ hexText bytes) × AllBytes bytes
+pub bytes-is : (text bytes : List ℕ) → bytesSpelled text ≡ some bytes → (text ≡ hexText bytes) × AllBytes bytes
 unfolding bytesSpelled
-bytes-is s bytes e =
-    let f = picked none (some (pairs s)) (eqb (length s % 2) 0 && allDigits 16 s) (some bytes) e (λ (b : none ≡ some bytes). let z : _≡_ {A = ℕ} 0 1 = cc in omega arith) in
-    let q : pairs s ≡ bytes = cc (f .1) in
-    rw (← q) (text-pairs s (eqb-true (length s % 2) 0 (and-left _ _ (f .0))) (and-right (eqb (length s % 2) 0) _ (f .0)))
+bytes-is text bytes e =
+    let f = picked none (some (pairs text)) (eqb (length text % 2) 0 && allDigits 16 text) (some bytes) e (λ (b : none ≡ some bytes). let z : _≡_ {A = ℕ} 0 1 = cc in omega arith) in
+    let q : pairs text ≡ bytes = cc (f .1) in
+    rw (← q) (text-pairs text (eqb-true (length text % 2) 0 (and-left _ _ (f .0))) (and-right (eqb (length text % 2) 0) _ (f .0)))

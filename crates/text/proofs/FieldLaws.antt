@@ -23,77 +23,77 @@ parsed-bad p next r e f = rw e f
 
 pub ruleset parsed-laws = (parsed-number, parsed-bad)
 
-module _ (s key : List ℕ) (before : Field) (r : Field) where
+module _ (line key : List ℕ) (before : Field) (r : Field) where
   -- whatever reads the value
   module _ (parse : List ℕ → Parsed) where
-    read-bad : not (before .good) ≡ true → r ≡ badField → r ≡ readAfter parse s before key
+    read-bad : not (before .good) ≡ true → r ≡ badField → r ≡ readAfter parse line before key
     read-bad h e = rw (not-true (before .good) h) e
 
-    module _ (v : Value) (e : v ≡ valueAt s (before .next) key) (g : not (before .good) ≡ false) where
-      read-missing : v ≡ Missing → r ≡ badField → r ≡ readAfter parse s before key
+    module _ (v : Value) (e : v ≡ valueAt line (before .next) key) (g : not (before .good) ≡ false) where
+      read-missing : v ≡ Missing → r ≡ badField → r ≡ readAfter parse line before key
       read-missing m f = rw (not-false (before .good) g, ← e, m) f
 
-      read-found : (from to : ℕ) (digits : List ℕ) (p : Parsed) → v ≡ Found from to → digits ≡ take (to - from) (drop from s) → p ≡ parse digits → r ≡ parsedField p to → r ≡ readAfter parse s before key
+      read-found : (from to : ℕ) (digits : List ℕ) (p : Parsed) → v ≡ Found from to → digits ≡ take (to - from) (drop from line) → p ≡ parse digits → r ≡ parsedField p to → r ≡ readAfter parse line before key
       read-found from to digits p m d q f = rw (not-false (before .good) g, ← e, m, ← d, ← q) f
 
   module _ (most : ℕ) where
-    pub decimal-bad : not (before .good) ≡ true → r ≡ badField → r ≡ decimalAfter s before key most
+    pub decimal-bad : not (before .good) ≡ true → r ≡ badField → r ≡ decimalAfter line before key most
     unfolding decimalAfter
     decimal-bad = read-bad (decimalNumber most)
 
-    module _ (v : Value) (e : v ≡ valueAt s (before .next) key) (g : not (before .good) ≡ false) where
-      pub decimal-missing : v ≡ Missing → r ≡ badField → r ≡ decimalAfter s before key most
+    module _ (v : Value) (e : v ≡ valueAt line (before .next) key) (g : not (before .good) ≡ false) where
+      pub decimal-missing : v ≡ Missing → r ≡ badField → r ≡ decimalAfter line before key most
       unfolding decimalAfter
       decimal-missing = read-missing (decimalNumber most) v e g
 
-      pub decimal-found : (from to : ℕ) (digits : List ℕ) (p : Parsed) → v ≡ Found from to → digits ≡ take (to - from) (drop from s) → p ≡ decimalNumber most digits → r ≡ parsedField p to → r ≡ decimalAfter s before key most
+      pub decimal-found : (from to : ℕ) (digits : List ℕ) (p : Parsed) → v ≡ Found from to → digits ≡ take (to - from) (drop from line) → p ≡ decimalNumber most digits → r ≡ parsedField p to → r ≡ decimalAfter line before key most
       unfolding decimalAfter
       decimal-found = read-found (decimalNumber most) v e g
 
   module _ (width : ℕ) where
-    pub hex-bad : not (before .good) ≡ true → r ≡ badField → r ≡ hexAfter s before key width
+    pub hex-bad : not (before .good) ≡ true → r ≡ badField → r ≡ hexAfter line before key width
     unfolding hexAfter
     hex-bad = read-bad (fixedHex width)
 
-    module _ (v : Value) (e : v ≡ valueAt s (before .next) key) (g : not (before .good) ≡ false) where
-      pub hex-missing : v ≡ Missing → r ≡ badField → r ≡ hexAfter s before key width
+    module _ (v : Value) (e : v ≡ valueAt line (before .next) key) (g : not (before .good) ≡ false) where
+      pub hex-missing : v ≡ Missing → r ≡ badField → r ≡ hexAfter line before key width
       unfolding hexAfter
       hex-missing = read-missing (fixedHex width) v e g
 
-      module _ (from to : ℕ) (digits : List ℕ) (m : v ≡ Found from to) (d : digits ≡ take (to - from) (drop from s)) where
-        pub hex-wide : (length digits ≡ width → ⊥) → r ≡ badField → r ≡ hexAfter s before key width
+      module _ (from to : ℕ) (digits : List ℕ) (m : v ≡ Found from to) (d : digits ≡ take (to - from) (drop from line)) where
+        pub hex-wide : (length digits ≡ width → ⊥) → r ≡ badField → r ≡ hexAfter line before key width
         unfolding hexAfter
         hex-wide h f = read-found (fixedHex width) v e g from to digits Bad m d (rw (ne-eqb (length digits) width h)) f
 
-        pub hex-found : (p : Parsed) → length digits ≡ width → p ≡ hexNumber digits → r ≡ parsedField p to → r ≡ hexAfter s before key width
+        pub hex-found : (p : Parsed) → length digits ≡ width → p ≡ hexNumber digits → r ≡ parsedField p to → r ≡ hexAfter line before key width
         unfolding hexAfter
         hex-found p h q f = read-found (fixedHex width) v e g from to digits p m d (rw (eq-eqb (length digits) width h) q) f
 
-  pub plain-bad : not (before .good) ≡ true → r ≡ badField → r ≡ plainHexAfter s before key
+  pub plain-bad : not (before .good) ≡ true → r ≡ badField → r ≡ plainHexAfter line before key
   unfolding plainHexAfter
   plain-bad = read-bad hexPlain
 
-  module _ (v : Value) (e : v ≡ valueAt s (before .next) key) (g : not (before .good) ≡ false) where
-    pub plain-missing : v ≡ Missing → r ≡ badField → r ≡ plainHexAfter s before key
+  module _ (v : Value) (e : v ≡ valueAt line (before .next) key) (g : not (before .good) ≡ false) where
+    pub plain-missing : v ≡ Missing → r ≡ badField → r ≡ plainHexAfter line before key
     unfolding plainHexAfter
     plain-missing = read-missing hexPlain v e g
 
-    pub plain-found : (from to : ℕ) (digits : List ℕ) (p : Parsed) → v ≡ Found from to → digits ≡ take (to - from) (drop from s) → p ≡ hexPlain digits → r ≡ parsedField p to → r ≡ plainHexAfter s before key
+    pub plain-found : (from to : ℕ) (digits : List ℕ) (p : Parsed) → v ≡ Found from to → digits ≡ take (to - from) (drop from line) → p ≡ hexPlain digits → r ≡ parsedField p to → r ≡ plainHexAfter line before key
     unfolding plainHexAfter
     plain-found = read-found hexPlain v e g
 
-  pub key-bad : not (before .good) ≡ true → r ≡ badField → r ≡ keyAfter s before key
+  pub key-bad : not (before .good) ≡ true → r ≡ badField → r ≡ keyAfter line before key
   unfolding keyAfter
   key-bad h e = rw (not-true (before .good) h) e
 
-  module _ (b : Bool) (e : b ≡ startsWith s (before .next) key) (g : not (before .good) ≡ false) where
-    pub key-missing : not b ≡ true → r ≡ badField → r ≡ keyAfter s before key
+  module _ (b : Bool) (e : b ≡ startsWith line (before .next) key) (g : not (before .good) ≡ false) where
+    pub key-missing : not b ≡ true → r ≡ badField → r ≡ keyAfter line before key
     unfolding keyAfter
     key-missing h f = rw (not-false (before .good) g, ← e, not-true b h) f
 
-pub key-found : (s key : List ℕ) (before : Field) (b : Bool) → b ≡ startsWith s (before .next) key → not (before .good) ≡ false → not b ≡ false → record { good = true; value = 0; next = before .next + length key } ≡ keyAfter s before key
+pub key-found : (line key : List ℕ) (before : Field) (b : Bool) → b ≡ startsWith line (before .next) key → not (before .good) ≡ false → not b ≡ false → record { good = true; value = 0; next = before .next + length key } ≡ keyAfter line before key
 unfolding keyAfter
-key-found s key before b e g h = rw (not-false (before .good) g, ← e, not-false b h)
+key-found line key before b e g h = rw (not-false (before .good) g, ← e, not-false b h)
 
 pub ruleset decimal-field-laws = (decimal-bad, decimal-missing, decimal-found)
 

@@ -8,8 +8,8 @@ use native.Mathlib.Omega.{arith}
 use lib.ListN.{length}
 use Rattle.bits.specs.Choice.{pick}
 use Rattle.text.specs.Decimal.{decimalNumber}
-use Rattle.text.specs.Words.{startsWith, valueAt}
-use Rattle.text.specs.Fields.{badField, parsedField, between, parsedIn, decimalAfter, keyAfter}
+use Rattle.text.specs.Words.{part, startsWith, valueAt}
+use Rattle.text.specs.Fields.{badField, parsedField, parsedIn, decimalAfter, keyAfter}
 use Rattle.text.specs.declared.number.Parsed.{Parsed}
 use Rattle.text.specs.declared.number.Parsed.the-variants.{Number, Bad}
 use Rattle.text.specs.declared.words.Value.{Value}
@@ -26,31 +26,31 @@ parsed-place : (p : Parsed) (to : ℕ) → parsedField p to .good ≡ true → p
 parsed-place (Number n) to g = refl
 parsed-place Bad to g = absurd (false≢true g)
 
-module _ (s key : List ℕ) (before : Field) where
+module _ (line key : List ℕ) (before : Field) where
   module _ (most : ℕ) where
-    decimal-found : (v : Value) → v ≡ valueAt s (before .next) key → parsedIn (decimalNumber most) s v .good ≡ true → (before .next + length key ≤ parsedIn (decimalNumber most) s v .next) × (parsedIn (decimalNumber most) s v .next ≤ length s)
+    decimal-found : (v : Value) → v ≡ valueAt line (before .next) key → parsedIn (decimalNumber most) line v .good ≡ true → (before .next + length key ≤ parsedIn (decimalNumber most) line v .next) × (parsedIn (decimalNumber most) line v .next ≤ length line)
     decimal-found (Found from to) d g =
-        let b = found-bounds s key (before .next) from to (Found from to) d refl in
-        let e = parsed-place (decimalNumber most (between s from to)) to g in
+        let b = found-bounds line key (before .next) from to (Found from to) d refl in
+        let e = parsed-place (decimalNumber most (part line from to)) to g in
         rw e (omega (arith, b .0, b .1 .0), b .1 .1)
     decimal-found Missing d g = absurd (false≢true g)
 
-    decimal-by : (t : Bool) → before .good ≡ t → pick t (parsedIn (decimalNumber most) s (valueAt s (before .next) key)) badField .good ≡ true → Placed (length s) before (length key) (pick t (parsedIn (decimalNumber most) s (valueAt s (before .next) key)) badField)
-    decimal-by true e g = (e, decimal-found (valueAt s (before .next) key) refl g)
+    decimal-by : (t : Bool) → before .good ≡ t → pick t (parsedIn (decimalNumber most) line (valueAt line (before .next) key)) badField .good ≡ true → Placed (length line) before (length key) (pick t (parsedIn (decimalNumber most) line (valueAt line (before .next) key)) badField)
+    decimal-by true e g = (e, decimal-found (valueAt line (before .next) key) refl g)
     decimal-by false e g = absurd (false≢true g)
 
-    pub decimal-placed : decimalAfter s before key most .good ≡ true → Placed (length s) before (length key) (decimalAfter s before key most)
+    pub decimal-placed : decimalAfter line before key most .good ≡ true → Placed (length line) before (length key) (decimalAfter line before key most)
     unfolding decimalAfter
     decimal-placed g = decimal-by (before .good) refl g
 
   abbrev found : Field
   found = record { good = true; value = 0; next = before .next + length key }
 
-  key-by : (t b : Bool) → before .good ≡ t → b ≡ startsWith s (before .next) key → pick t (pick b found badField) badField .good ≡ true → Placed (length s) before (length key) (pick t (pick b found badField) badField)
-  key-by true true e d g = (e, (le-refl (before .next + length key), starts-le s key (before .next) true d refl))
+  key-by : (t b : Bool) → before .good ≡ t → b ≡ startsWith line (before .next) key → pick t (pick b found badField) badField .good ≡ true → Placed (length line) before (length key) (pick t (pick b found badField) badField)
+  key-by true true e d g = (e, (le-refl (before .next + length key), starts-le line key (before .next) true d refl))
   key-by true false e d g = absurd (false≢true g)
   key-by false b e d g = absurd (false≢true g)
 
-  pub key-placed : keyAfter s before key .good ≡ true → Placed (length s) before (length key) (keyAfter s before key)
+  pub key-placed : keyAfter line before key .good ≡ true → Placed (length line) before (length key) (keyAfter line before key)
   unfolding keyAfter
-  key-placed g = key-by (before .good) (startsWith s (before .next) key) refl refl g
+  key-placed g = key-by (before .good) (startsWith line (before .next) key) refl refl g

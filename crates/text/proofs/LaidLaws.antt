@@ -20,45 +20,45 @@ use Rattle.text.proofs.Bounds.{length-laid}
 
 -- ---- a text, and one after it
 
--- t over what s gave, from the index after s on
-pub put-next : (at : ℕ) (s t out : List ℕ) → at + length s ≤ length out → put (at + length s) t (put at s out) ≡ put at (s ++ t) out
+-- t over what text gave, from the index after text on
+pub put-next : (at : ℕ) (text t out : List ℕ) → at + length text ≤ length out → put (at + length text) t (put at text out) ≡ put at (text ++ t) out
 put-next at [] t out h = rw (add-zero at, put-done at out)
-put-next at (d ∷ s) t out h =
+put-next at (d ∷ text) t out h =
     rw (
-      ← put-first at d s out (omega arith),
-      ← put-first at d (s ++ t) out (omega arith),
-      ← put-next (at + 1) s t (set out at d) (rw (length-set out at d) (omega arith)),
+      ← put-first at d text out (omega arith),
+      ← put-first at d (text ++ t) out (omega arith),
+      ← put-next (at + 1) text t (set out at d) (rw (length-set out at d) (omega arith)),
       add-one at,
-      suc-add at (length s),
-      add-suc at (length s),
+      suc-add at (length text),
+      add-suc at (length text),
     )
 
-module _ (at : ℕ) (s out : List ℕ) (h : at + length s ≤ length out) where
-  pub after-fits : after at s out ≡ at + length s
+module _ (at : ℕ) (text out : List ℕ) (h : at + length text ≤ length out) where
+  pub after-fits : after at text out ≡ at + length text
   unfolding after
-  after-fits = rw (le-leb (at + length s) (length out) h)
+  after-fits = rw (le-leb (at + length text) (length out) h)
 
-  pub laid-fits : laid at s out ≡ put at s out
+  pub laid-fits : laid at text out ≡ put at text out
   unfolding laid
-  laid-fits = rw (le-leb (at + length s) (length out) h)
+  laid-fits = rw (le-leb (at + length text) (length out) h)
 
--- the index a and the output l after s, where t fits too
-module _ (at : ℕ) (s t out : List ℕ) (h : at + length (s ++ t) ≤ length out) (a : ℕ) (l : List ℕ) (e : a ≡ after at s out) (f : l ≡ laid at s out) where
-  fits-first : at + length s ≤ length out
-  fits-first = omega (arith, length-append s t)
+-- the index a and the output l after text, where t fits too
+module _ (at : ℕ) (text t out : List ℕ) (h : at + length (text ++ t) ≤ length out) (a : ℕ) (l : List ℕ) (e : a ≡ after at text out) (f : l ≡ laid at text out) where
+  fits-first : at + length text ≤ length out
+  fits-first = omega (arith, length-append text t)
 
   pub fits-next : a + length t ≤ length l
-  fits-next = rw (e, f, length-laid at s out, after-fits at s out fits-first) (omega (arith, length-append s t))
+  fits-next = rw (e, f, length-laid at text out, after-fits at text out fits-first) (omega (arith, length-append text t))
 
-  pub after-next : (b : ℕ) → b ≡ after a t l → b ≡ after at (s ++ t) out
+  pub after-next : (b : ℕ) → b ≡ after a t l → b ≡ after at (text ++ t) out
   after-next b g =
       g ∙ after-fits a t l fits-next
-      ∙ rw (e, after-fits at s out fits-first, after-fits at (s ++ t) out h, length-append s t) (add-assoc at (length s) (length t))
+      ∙ rw (e, after-fits at text out fits-first, after-fits at (text ++ t) out h, length-append text t) (add-assoc at (length text) (length t))
 
-  pub laid-next : (m : List ℕ) → m ≡ laid a t l → m ≡ laid at (s ++ t) out
+  pub laid-next : (m : List ℕ) → m ≡ laid a t l → m ≡ laid at (text ++ t) out
   laid-next m g =
       g ∙ laid-fits a t l fits-next
-      ∙ rw (e, f, after-fits at s out fits-first, laid-fits at s out fits-first, laid-fits at (s ++ t) out h) (put-next at s t out fits-first)
+      ∙ rw (e, f, after-fits at text out fits-first, laid-fits at text out fits-first, laid-fits at (text ++ t) out h) (put-next at text t out fits-first)
 
 -- nothing laid
 
@@ -81,17 +81,17 @@ laid-nothing at out = rw (put-done at out) (nothing-by (leb (at + 0) (length out
 -- ---- the text that was laid at the front of a line
 
 -- what the front of the line l holds afterwards, up to the index n after it
-pub front-laid : (s l₀ l : List ℕ) (n : ℕ) → 0 + length s ≤ length l₀ → n ≡ after 0 s l₀ → l ≡ laid 0 s l₀ → take (n - 0) (drop 0 l) ≡ s
+pub front-laid : (text l₀ l : List ℕ) (n : ℕ) → 0 + length text ≤ length l₀ → n ≡ after 0 text l₀ → l ≡ laid 0 text l₀ → take (n - 0) (drop 0 l) ≡ text
 unfolding put
-front-laid s l₀ l n h e f = rw (e, f, after-fits 0 s l₀ h, laid-fits 0 s l₀ h, zero-add (length s), sub-zero (length s)) (take-append-seam s (drop (length s) l₀))
+front-laid text l₀ l n h e f = rw (e, f, after-fits 0 text l₀ h, laid-fits 0 text l₀ h, zero-add (length text), sub-zero (length text)) (take-append-seam text (drop (length text) l₀))
 
 -- that text laid into an output, by way of the part w of the line
-module _ (s l₀ l : List ℕ) (n : ℕ) (h : 0 + length s ≤ length l₀) (e : n ≡ after 0 s l₀) (f : l ≡ laid 0 s l₀) (w : List ℕ) (g : w ≡ take (n - 0) (drop 0 l)) (at : ℕ) (out : List ℕ) where
-  pub line-after : (r : ℕ) → r ≡ after at w out → r ≡ after at s out
-  line-after r q = rw (g, front-laid s l₀ l n h e f) at q
+module _ (text l₀ l : List ℕ) (n : ℕ) (h : 0 + length text ≤ length l₀) (e : n ≡ after 0 text l₀) (f : l ≡ laid 0 text l₀) (w : List ℕ) (g : w ≡ take (n - 0) (drop 0 l)) (at : ℕ) (out : List ℕ) where
+  pub line-after : (r : ℕ) → r ≡ after at w out → r ≡ after at text out
+  line-after r q = rw (g, front-laid text l₀ l n h e f) at q
 
-  pub line-laid : (r : List ℕ) → r ≡ laid at w out → r ≡ laid at s out
-  line-laid r q = rw (g, front-laid s l₀ l n h e f) at q
+  pub line-laid : (r : List ℕ) → r ≡ laid at w out → r ≡ laid at text out
+  line-laid r q = rw (g, front-laid text l₀ l n h e f) at q
 
 pub ruleset line-laws = (line-after, line-laid)
 

@@ -13,8 +13,7 @@ use borrow.Author.Tests.{lt-ltb, le-ltb, le-leb, lt-leb, ltb-true, ltb-false, no
 use Rattle.bits.specs.Choice.{pick}
 use Rattle.text.specs.Digit.{hexValue, hexDigit, allDigits}
 use Rattle.bits.specs.Put.{put}
-use Rattle.text.specs.Number.{valueFrom, plain, plainly, empty, numberIn, digits, countTo, digitCount, plainText}
-use Rattle.text.specs.Laid.{laid, after}
+use Rattle.text.specs.Number.{valueFrom, plain, plainly, empty, numberIn, digits, countTo, digitCount}
 use Rattle.text.specs.declared.number.Parsed.{Parsed}
 use Rattle.text.specs.declared.number.Parsed.the-variants.{Number, Bad}
 use Rattle.text.proofs.Order.{leb-iff}
@@ -23,24 +22,24 @@ use Rattle.text.proofs.DigitLaws.{digits-first}
 
 -- ---- no leading zeros
 
-pub plain-short : (s : List ℕ) → length s < 2 → true ≡ plain s
+pub plain-short : (text : List ℕ) → length text < 2 → true ≡ plain text
 unfolding plain
 plain-short [] h = refl
 plain-short (b ∷ []) h = refl
-plain-short (b ∷ c ∷ s) h = absurd (omega arith)
+plain-short (b ∷ c ∷ text) h = absurd (omega arith)
 
-pub plain-first : (s : List ℕ) (d : ℕ) → 2 ≤ length s → d ≡ hexValue (getD s 0 0) → not (eqb d 0) ≡ plain s
+pub plain-first : (text : List ℕ) (d : ℕ) → 2 ≤ length text → d ≡ hexValue (getD text 0 0) → not (eqb d 0) ≡ plain text
 unfolding plain
 plain-first [] d h e = absurd (omega arith)
 plain-first (b ∷ []) d h e = absurd (omega arith)
-plain-first (b ∷ c ∷ s) d h e = rw e
+plain-first (b ∷ c ∷ text) d h e = rw e
 
-module _ (s : List ℕ) (p : Parsed) (r : Bool) (e : r ≡ plain s) where
-  pub plain-no : not r ≡ true → Bad ≡ plainly s p
+module _ (text : List ℕ) (p : Parsed) (r : Bool) (e : r ≡ plain text) where
+  pub plain-no : not r ≡ true → Bad ≡ plainly text p
   unfolding plainly
   plain-no h = rw (← e, not-true r h)
 
-  pub plain-yes : (q : Parsed) → not r ≡ false → q ≡ p → q ≡ plainly s p
+  pub plain-yes : (q : Parsed) → not r ≡ false → q ≡ p → q ≡ plainly text p
   unfolding plainly
   plain-yes q h f = rw (← e, not-false r h) f
 
@@ -61,55 +60,55 @@ pub ruleset exceeds-laws = (exceeds-digit, exceeds-rest)
 
 -- ---- reading
 
--- the number that s means after the number v, where it is digits and not above most
+-- the number that text means after the number v, where it is digits and not above most
 unfoldable pub numberFrom : ℕ → ℕ → ℕ → List ℕ → Parsed
-numberFrom base most v s = pick (allDigits base s && leb (valueFrom base v s) most) (Number (valueFrom base v s)) Bad
+numberFrom base most v text = pick (allDigits base text && leb (valueFrom base v text) most) (Number (valueFrom base v text)) Bad
 
-pub value-le : (base v : ℕ) (s : List ℕ) → 0 < base → v ≤ valueFrom base v s
+pub value-le : (base v : ℕ) (text : List ℕ) → 0 < base → v ≤ valueFrom base v text
 unfolding valueFrom
 value-le base v [] p = le-refl v
-value-le base v (b ∷ s) p = le-trans (omega (arith, mul-le-mul-left v p)) (value-le base (v * base + hexValue b) s p)
+value-le base v (b ∷ text) p = le-trans (omega (arith, mul-le-mul-left v p)) (value-le base (v * base + hexValue b) text p)
 
-pub number-none : (base most : ℕ) (s : List ℕ) → length s ≡ 0 → Bad ≡ numberIn base most s
+pub number-none : (base most : ℕ) (text : List ℕ) → length text ≡ 0 → Bad ≡ numberIn base most text
 unfolding numberIn empty
 number-none base most [] h = refl
-number-none base most (b ∷ s) h = absurd (omega arith)
+number-none base most (b ∷ text) h = absurd (omega arith)
 
-pub number-start : (base most : ℕ) (s : List ℕ) → (length s ≡ 0 → ⊥) → numberFrom base most 0 s ≡ numberIn base most s
+pub number-start : (base most : ℕ) (text : List ℕ) → (length text ≡ 0 → ⊥) → numberFrom base most 0 text ≡ numberIn base most text
 unfolding numberIn empty numberFrom
 number-start base most [] h = absurd (h refl)
-number-start base most (b ∷ s) h = refl
+number-start base most (b ∷ text) h = refl
 
-module _ (base most v i : ℕ) (s : List ℕ) (t : Parsed) (n : numberFrom base most v (drop i s) ≡ t) where
-  pub number-done : length s ≤ i → v ≤ most → Number v ≡ t
+module _ (base most v i : ℕ) (text : List ℕ) (t : Parsed) (n : numberFrom base most v (drop i text) ≡ t) where
+  pub number-done : length text ≤ i → v ≤ most → Number v ≡ t
   unfolding numberFrom allDigits valueFrom
-  number-done h l = rw (drop-of-length-le s h, le-leb v most l) at n
+  number-done h l = rw (drop-of-length-le text h, le-leb v most l) at n
 
-  module _ (d : ℕ) (e : d ≡ hexValue (getD s i 0)) (h : i < length s) where
-    value-first : valueFrom base v (drop i s) ≡ valueFrom base (v * base + d) (drop (i + 1) s)
+  module _ (d : ℕ) (e : d ≡ hexValue (getD text i 0)) (h : i < length text) where
+    value-first : valueFrom base v (drop i text) ≡ valueFrom base (v * base + d) (drop (i + 1) text)
     unfolding valueFrom
-    value-first = rw (drop-cons s i 0 h, add-one i, e)
+    value-first = rw (drop-cons text i 0 h, add-one i, e)
 
     pub number-digit : base ≤ d → Bad ≡ t
     unfolding numberFrom
-    number-digit l = rw (digits-first base i s h, ← e, le-ltb d base l) at n
+    number-digit l = rw (digits-first base i text h, ← e, le-ltb d base l) at n
 
     module _ (l : d < base) (x : Bool) (f : x ≡ ltb most (v * base + d)) where
       pub number-above : 0 < base → x ≡ true → Bad ≡ t
       unfolding numberFrom
       number-above p g =
           rw (
-            digits-first base i s h,
+            digits-first base i text h,
             ← e,
             lt-ltb d base l,
             value-first,
-            lt-leb (valueFrom base (v * base + d) (drop (i + 1) s)) most (lt-of-lt-of-le (ltb-true most (v * base + d) (sym f ∙ g)) (value-le base (v * base + d) (drop (i + 1) s) p)),
-            and-false (allDigits base (drop (i + 1) s)),
+            lt-leb (valueFrom base (v * base + d) (drop (i + 1) text)) most (lt-of-lt-of-le (ltb-true most (v * base + d) (sym f ∙ g)) (value-le base (v * base + d) (drop (i + 1) text) p)),
+            and-false (allDigits base (drop (i + 1) text)),
           ) at n
 
-      pub number-next : x ≡ false → numberFrom base most (v * base + d) (drop (i + 1) s) ≡ t
+      pub number-next : x ≡ false → numberFrom base most (v * base + d) (drop (i + 1) text) ≡ t
       unfolding numberFrom
-      number-next g = rw (digits-first base i s h, ← e, lt-ltb d base l, value-first) at n
+      number-next g = rw (digits-first base i text h, ← e, lt-ltb d base l, value-first) at n
 
 pub number-most : (x : Bool) (m most : ℕ) → x ≡ ltb most m → x ≡ false → m ≤ most
 number-most x m most e f = ltb-false most m (sym e ∙ f)
@@ -159,15 +158,6 @@ module _ (base w at i m : ℕ) (out whole : List ℕ) (q : put at (digits base (
 
 pub ruleset lay-laws = (lay-start, lay-done, lay-next)
 
--- as many digits as the number has
-
-module _ (base n w at : ℕ) (out : List ℕ) (e : w ≡ digitCount base n) where
-  pub plain-after : (r : ℕ) → r ≡ after at (digits base w n) out → r ≡ after at (plainText base n) out
-  plain-after r h = rw e at h
-
-  pub plain-laid : (o : List ℕ) → o ≡ laid at (digits base w n) out → o ≡ laid at (plainText base n) out
-  plain-laid o h = rw e at h
-
 -- how many digits
 
 module _ (base : ℕ) (p : 1 < base) where
@@ -201,8 +191,8 @@ module _ (base : ℕ) (p : 1 < base) where
     unfolding countTo
     count-next h l g =
         let f : digitCount base m ≡ suc (countTo base 63 (m / base)) = rw (le-ltb m base h) in
-        let s : m / base < base ^ 63 = shorter 63 m (in-64 m (omega arith)) in
-        omega (arith, count-limit 62 63 (m / base) s (lt-of-lt-of-le s (pow-le-pow-right (omega arith) (omega arith))))
+        let small : m / base < base ^ 63 = shorter 63 m (in-64 m (omega arith)) in
+        omega (arith, count-limit 62 63 (m / base) small (lt-of-lt-of-le small (pow-le-pow-right (omega arith) (omega arith))))
 
   pub count-bound : (k m n : ℕ) → base ≤ m → k + m ≤ n + 1 → k + 1 + m / base ≤ n + 1
   count-bound k m n h e = omega (arith, div-lt-self {n = m} {k = base} (omega arith) p)

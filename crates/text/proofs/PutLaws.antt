@@ -48,17 +48,17 @@ put-last at d src out h =
 
 -- a text of which the code has laid the first i bytes
 
-module _ (at i : ℕ) (s out whole : List ℕ) (q : put (at + i) (drop i s) out ≡ whole) where
-  pub copy-done : length s ≤ i → out ≡ whole
-  copy-done l = sym (put-done (at + i) out) ∙ (rw (drop-of-length-le s l) at q)
+module _ (at i : ℕ) (text out whole : List ℕ) (q : put (at + i) (drop i text) out ≡ whole) where
+  pub copy-done : length text ≤ i → out ≡ whole
+  copy-done l = sym (put-done (at + i) out) ∙ (rw (drop-of-length-le text l) at q)
 
-  pub copy-next : (out₀ : List ℕ) → i < length s → at + length s ≤ length out₀ → length out ≡ length out₀
-      → put (at + (i + 1)) (drop (i + 1) s) (set out (at + i) (getD s i 0)) ≡ whole
+  pub copy-next : (out₀ : List ℕ) → i < length text → at + length text ≤ length out₀ → length out ≡ length out₀
+      → put (at + (i + 1)) (drop (i + 1) text) (set out (at + i) (getD text i 0)) ≡ whole
   copy-next out₀ h l z =
-      rw (← add-assoc at i 1, add-one i, put-first (at + i) (getD s i 0) (drop (suc i) s) out (omega arith), ← drop-cons s i 0 h) q
+      rw (← add-assoc at i 1, add-one i, put-first (at + i) (getD text i 0) (drop (suc i) text) out (omega arith), ← drop-cons text i 0 h) q
 
-pub copy-start : (at : ℕ) (s out : List ℕ) → put (at + 0) s out ≡ put at s out
-copy-start at s out = rw (add-zero at)
+pub copy-start : (at : ℕ) (text out : List ℕ) → put (at + 0) text out ≡ put at text out
+copy-start at text out = rw (add-zero at)
 
 pub ruleset copy-laws = (copy-done, copy-next, copy-start)
 

@@ -24,22 +24,22 @@ use Rattle.text.proofs.HexLaws.{length-text}
 
 -- ---- one digit more at the end
 
-value-append : (base v b : ℕ) (s : List ℕ) → valueFrom base v (s ++ (b ∷ [])) ≡ valueFrom base v s * base + hexValue b
+value-append : (base v b : ℕ) (text : List ℕ) → valueFrom base v (text ++ (b ∷ [])) ≡ valueFrom base v text * base + hexValue b
 unfolding valueFrom
 value-append base v b [] = refl
-value-append base v b (c ∷ s) = value-append base (v * base + hexValue c) b s
+value-append base v b (c ∷ text) = value-append base (v * base + hexValue c) b text
 
-digits-append : (base b : ℕ) (s : List ℕ) → allDigits base s ≡ true → hexValue b < base → allDigits base (s ++ (b ∷ [])) ≡ true
+digits-append : (base b : ℕ) (text : List ℕ) → allDigits base text ≡ true → hexValue b < base → allDigits base (text ++ (b ∷ [])) ≡ true
 unfolding allDigits
 digits-append base b [] a h = rw (lt-ltb (hexValue b) base h)
-digits-append base b (c ∷ s) a h =
+digits-append base b (c ∷ text) a h =
     let t = ltb (hexValue c) base in
-    and-both t (allDigits base (s ++ (b ∷ []))) (and-left t (allDigits base s) a) (digits-append base b s (and-right t (allDigits base s) a) h)
+    and-both t (allDigits base (text ++ (b ∷ []))) (and-left t (allDigits base text) a) (digits-append base b text (and-right t (allDigits base text) a) h)
 
-some-digit : (s : List ℕ) → 0 < length s → empty s ≡ false
+some-digit : (text : List ℕ) → 0 < length text → empty text ≡ false
 unfolding empty
 some-digit [] h = absurd (omega arith)
-some-digit (b ∷ s) h = refl
+some-digit (b ∷ text) h = refl
 
 -- ---- as many digits as the number has
 
@@ -107,22 +107,22 @@ module _ (base : ℕ) (p : 1 < base) where
         omega (arith, last-digit n, mod-eq-of-lt g))
         (λ (g : base ≤ n).
         let m = n / base in
-        let s : m < base ^ k = shorter base p k n h in
+        let less : m < base ^ k = shorter base p k n h in
         let d : 0 < m = le-div-iff-mul-le {k = base} {x = 1} {y = n} (omega arith) .1 (omega arith) in
         let z : hexValue (getD (digits base (countTo base k m) m ++ (hexDigit (n % base) ∷ [])) 0 0) ≡ 0 = rw (le-ltb n base g) at e in
-        first-digit k m s d (rw (List·getD-append (digits base (countTo base k m) m) (hexDigit (n % base) ∷ []) 0 0 (rw (← length-digits base (countTo base k m) m) (count-pos k m d s))) at z))
+        first-digit k m less d (rw (List·getD-append (digits base (countTo base k m) m) (hexDigit (n % base) ∷ []) 0 0 (rw (← length-digits base (countTo base k m) m) (count-pos k m d less))) at z))
         (lt-or-le n base)
 
     plain-digits : (n : ℕ) → n < 2 ^ 64 → plain (plainText base n) ≡ true
     plain-digits n g =
-        let s = plainText base n in
+        let text = plainText base n in
         ⊎-elim
-        (λ (h : length s < 2). sym (plain-short s h))
-        (λ (h : 2 ≤ length s).
+        (λ (h : length text < 2). sym (plain-short text h))
+        (λ (h : 2 ≤ length text).
         let l : base ≤ n = ⊎-elim (λ (k : n < base). absurd (omega (arith, count-one n k, length-digits base (digitCount base n) n))) (λ k. k) (lt-or-le n base) in
-        sym (plain-first s (hexValue (getD s 0 0)) h refl)
-        ∙ rw (ne-eqb (hexValue (getD s 0 0)) 0 (first-digit 64 n (in-64 base p n g) (omega arith))))
-        (lt-or-le (length s) 2)
+        sym (plain-first text (hexValue (getD text 0 0)) h refl)
+        ∙ rw (ne-eqb (hexValue (getD text 0 0)) 0 (first-digit 64 n (in-64 base p n g) (omega arith))))
+        (lt-or-le (length text) 2)
 
 count-some : (base n : ℕ) → 0 < digitCount base n
 unfolding countTo
@@ -147,14 +147,14 @@ decimal-trip most n h l =
 -- w digits, leading zeros among them
 pub hex-fixed-trip : (w n : ℕ) → 0 < w → w ≤ 16 → n < 16 ^ w → hexNumber (digits 16 w n) ≡ Number n
 unfolding hexNumber
-hex-fixed-trip w n l h s =
+hex-fixed-trip w n l h g =
     let p : 1 < 16 = omega arith in
     let q : 16 ≤ 16 = omega arith in
     rw (
       digits-full 16 p w n l,
       le-leb (length (digits 16 w n)) 16 (rw (← length-digits 16 w n) h),
       digits-good 16 p q w n,
-      digits-value 16 p q w n s,
+      digits-value 16 p q w n g,
     )
 
 pub hex-plain-trip : (n : ℕ) → n < 2 ^ 64 → hexPlain (hexPlainText n) ≡ Number n
@@ -167,19 +167,19 @@ hex-plain-trip n h =
 
 -- ---- bytes
 
-pairs-text : (s : List ℕ) → AllBytes s → pairs (hexText s) ≡ s
+pairs-text : (bytes : List ℕ) → AllBytes bytes → pairs (hexText bytes) ≡ bytes
 unfolding pairs hexText
 pairs-text [] small = refl
-pairs-text (b ∷ s) small =
+pairs-text (b ∷ bytes) small =
     let h : b < 256 = small 0 (zero-lt-suc _) in
     let e : hexValue (hexDigit (b / 16)) * 16 + hexValue (hexDigit b) ≡ b = rw (value-digit (b / 16), value-digit b) (omega arith) in
-    rw (e, pairs-text s (λ i l. small (suc i) (suc-le-suc l)))
+    rw (e, pairs-text bytes (λ i l. small (suc i) (suc-le-suc l)))
 
-text-digits : (s : List ℕ) → allDigits 16 (hexText s) ≡ true
+text-digits : (bytes : List ℕ) → allDigits 16 (hexText bytes) ≡ true
 unfolding allDigits hexText
 text-digits [] = refl
-text-digits (b ∷ s) = rw (value-digit (b / 16), value-digit b, lt-ltb (b / 16 % 16) 16 (omega arith), lt-ltb (b % 16) 16 (omega arith)) (text-digits s)
+text-digits (b ∷ bytes) = rw (value-digit (b / 16), value-digit b, lt-ltb (b / 16 % 16) 16 (omega arith), lt-ltb (b % 16) 16 (omega arith)) (text-digits bytes)
 
-pub bytes-trip : (s : List ℕ) → AllBytes s → bytesSpelled (hexText s) ≡ some s
+pub bytes-trip : (bytes : List ℕ) → AllBytes bytes → bytesSpelled (hexText bytes) ≡ some bytes
 unfolding bytesSpelled
-bytes-trip s small = rw (eq-eqb (length (hexText s) % 2) 0 (omega (arith, length-text s)), text-digits s, pairs-text s small)
+bytes-trip bytes small = rw (eq-eqb (length (hexText bytes) % 2) 0 (omega (arith, length-text bytes)), text-digits bytes, pairs-text bytes small)

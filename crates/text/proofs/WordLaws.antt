@@ -17,116 +17,116 @@ use Rattle.text.proofs.Order.{lt-or-le, and-left, and-right}
 
 -- ---- a part, clipped
 
-module _ (s : List ℕ) (from to : ℕ) where
-  past : length s ≤ from → take (to - from) (drop from s) ≡ []
-  past h = rw (drop-of-length-le s h) (take-nil (to - from))
+module _ (text : List ℕ) (from to : ℕ) where
+  none-from : length text ≤ from → take (to - from) (drop from text) ≡ []
+  none-from h = rw (drop-of-length-le text h) (take-nil (to - from))
 
-  before : to ≤ from → take (to - from) (drop from s) ≡ []
-  before h = rw (sub-eq-zero-of-le h)
+  none-to : to ≤ from → take (to - from) (drop from text) ≡ []
+  none-to h = rw (sub-eq-zero-of-le h)
 
-  clipped-all : length s ≤ to → take (to - from) (drop from s) ≡ drop from s
-  clipped-all h = take-all (to - from) (drop from s) (rw (length-drop from s) (omega arith))
+  clipped-all : length text ≤ to → take (to - from) (drop from text) ≡ drop from text
+  clipped-all h = take-all (to - from) (drop from text) (rw (length-drop from text) (omega arith))
 
-  pub clipped : (e a : ℕ) → e ≡ min to (length s) → a ≡ min from e → take (e - a) (drop a s) ≡ take (to - from) (drop from s)
+  pub clipped : (e a : ℕ) → e ≡ min to (length text) → a ≡ min from e → take (e - a) (drop a text) ≡ take (to - from) (drop from text)
   clipped e a f g =
       ⊎-elim
       (λ (h : from < e).
       let k : a ≡ from = omega arith in
       ⊎-elim
-      (λ (l : to < length s). let m : e ≡ to = omega arith in rw (k, m))
-      (λ (l : length s ≤ to).
-      let m : e ≡ length s = omega arith in
-      rw (k, m, clipped-all l) (take-all (length s - from) (drop from s) (le-of-eq (length-drop from s))))
-      (lt-or-le to (length s)))
+      (λ (l : to < length text). let m : e ≡ to = omega arith in rw (k, m))
+      (λ (l : length text ≤ to).
+      let m : e ≡ length text = omega arith in
+      rw (k, m, clipped-all l) (take-all (length text - from) (drop from text) (le-of-eq (length-drop from text))))
+      (lt-or-le to (length text)))
       (λ (h : e ≤ from).
       let k : a ≡ e = omega arith in
-      rw k (rw (sub-eq-zero-of-le (le-of-eq {n = e} refl)) (sym (⊎-elim (λ (l : to < length s). before (omega arith)) (λ (l : length s ≤ to). past (omega arith)) (lt-or-le to (length s))))))
+      rw k (rw (sub-eq-zero-of-le (le-of-eq {n = e} refl)) (sym (⊎-elim (λ (l : to < length text). none-to (omega arith)) (λ (l : length text ≤ to). none-from (omega arith)) (lt-or-le to (length text))))))
       (lt-or-le from e)
 
 -- ---- the end of a word
 
-pub end-start : (s : List ℕ) (at i : ℕ) → i ≡ min at (length s) → i + wordLength (drop i s) ≡ wordEnd s at
+pub end-start : (text : List ℕ) (at i : ℕ) → i ≡ min at (length text) → i + wordLength (drop i text) ≡ wordEnd text at
 unfolding wordEnd
-end-start s at i e =
+end-start text at i e =
     ⊎-elim
-    (λ (h : at < length s). let k : i ≡ at = omega arith in rw (← e, k))
-    (λ (h : length s ≤ at).
-    let k : i ≡ length s = omega arith in
-    rw (← e, drop-of-length-le s h, drop-of-length-le s (le-of-eq (sym k))))
-    (lt-or-le at (length s))
+    (λ (h : at < length text). let k : i ≡ at = omega arith in rw (← e, k))
+    (λ (h : length text ≤ at).
+    let k : i ≡ length text = omega arith in
+    rw (← e, drop-of-length-le text h, drop-of-length-le text (le-of-eq (sym k))))
+    (lt-or-le at (length text))
 
-module _ (s : List ℕ) (i t : ℕ) (q : i + wordLength (drop i s) ≡ t) where
-  pub end-done : length s ≤ i → i ≡ t
+module _ (text : List ℕ) (i t : ℕ) (q : i + wordLength (drop i text) ≡ t) where
+  pub end-done : length text ≤ i → i ≡ t
   unfolding wordLength
-  end-done h = sym (add-zero i) ∙ (rw (drop-of-length-le s h) at q)
+  end-done h = sym (add-zero i) ∙ (rw (drop-of-length-le text h) at q)
 
-  module _ (h : i < length s) where
-    pub end-space : getD s i 0 ≡ 32 → i ≡ t
+  module _ (h : i < length text) where
+    pub end-space : getD text i 0 ≡ 32 → i ≡ t
     unfolding wordLength
-    end-space e = sym (add-zero i) ∙ (rw (drop-cons s i 0 h, eq-eqb (getD s i 0) 32 e) at q)
+    end-space e = sym (add-zero i) ∙ (rw (drop-cons text i 0 h, eq-eqb (getD text i 0) 32 e) at q)
 
-    pub end-next : (getD s i 0 ≡ 32 → ⊥) → i + 1 + wordLength (drop (i + 1) s) ≡ t
+    pub end-next : (getD text i 0 ≡ 32 → ⊥) → i + 1 + wordLength (drop (i + 1) text) ≡ t
     unfolding wordLength
     end-next e =
-        let k : i + suc (wordLength (drop (suc i) s)) ≡ t = rw (drop-cons s i 0 h, ne-eqb (getD s i 0) 32 e) at q in
+        let k : i + suc (wordLength (drop (suc i) text)) ≡ t = rw (drop-cons text i 0 h, ne-eqb (getD text i 0) 32 e) at q in
         rw (add-one i) (omega arith)
 
 pub ruleset end-laws = (end-start, end-done, end-space, end-next)
 
 -- ---- keys
 
-pub key-long : (key s : List ℕ) → length s < length key → false ≡ beginsWith key s
+pub key-long : (key text : List ℕ) → length text < length key → false ≡ beginsWith key text
 unfolding beginsWith
-key-long [] s h = absurd (omega arith)
+key-long [] text h = absurd (omega arith)
 key-long (k ∷ key) [] h = refl
-key-long (k ∷ key) (b ∷ s) h = rw (← key-long key s (omega arith), and-false (eqb b k))
+key-long (k ∷ key) (b ∷ text) h = rw (← key-long key text (omega arith), and-false (eqb b k))
 
-module _ (key s : List ℕ) (i : ℕ) (t : Bool) (q : beginsWith (drop i key) (drop i s) ≡ t) where
+module _ (key text : List ℕ) (i : ℕ) (t : Bool) (q : beginsWith (drop i key) (drop i text) ≡ t) where
   pub key-done : length key ≤ i → true ≡ t
   unfolding beginsWith
   key-done h = rw (drop-of-length-le key h) at q
 
-  module _ (h : i < length key) (l : length key ≤ length s) where
-    first : beginsWith (drop i key) (drop i s) ≡ (eqb (getD s i 0) (getD key i 0) && beginsWith (drop (i + 1) key) (drop (i + 1) s))
+  module _ (h : i < length key) (l : length key ≤ length text) where
+    first : beginsWith (drop i key) (drop i text) ≡ (eqb (getD text i 0) (getD key i 0) && beginsWith (drop (i + 1) key) (drop (i + 1) text))
     unfolding beginsWith
-    first = rw (drop-cons key i 0 h, drop-cons s i 0 (omega arith), add-one i)
+    first = rw (drop-cons key i 0 h, drop-cons text i 0 (omega arith), add-one i)
 
-    pub key-differs : (getD s i 0 ≡ getD key i 0 → ⊥) → false ≡ t
-    key-differs e = rw (first, ne-eqb (getD s i 0) (getD key i 0) e) at q
+    pub key-differs : (getD text i 0 ≡ getD key i 0 → ⊥) → false ≡ t
+    key-differs e = rw (first, ne-eqb (getD text i 0) (getD key i 0) e) at q
 
-    pub key-next : getD s i 0 ≡ getD key i 0 → beginsWith (drop (i + 1) key) (drop (i + 1) s) ≡ t
-    key-next e = rw (first, eq-eqb (getD s i 0) (getD key i 0) e) at q
+    pub key-next : getD text i 0 ≡ getD key i 0 → beginsWith (drop (i + 1) key) (drop (i + 1) text) ≡ t
+    key-next e = rw (first, eq-eqb (getD text i 0) (getD key i 0) e) at q
 
 pub ruleset key-laws = (key-long, key-done, key-differs, key-next)
 
-module _ (s key : List ℕ) (at : ℕ) where
-  pub starts-past : length s < at → false ≡ startsWith s at key
+module _ (text key : List ℕ) (at : ℕ) where
+  pub starts-past : length text < at → false ≡ startsWith text at key
   unfolding startsWith
-  starts-past h = rw (lt-leb at (length s) h)
+  starts-past h = rw (lt-leb at (length text) h)
 
-  pub starts-here : (r : Bool) → at ≤ length s → r ≡ beginsWith key (take (length s - at) (drop at s)) → r ≡ startsWith s at key
+  pub starts-here : (r : Bool) → at ≤ length text → r ≡ beginsWith key (take (length text - at) (drop at text)) → r ≡ startsWith text at key
   unfolding startsWith
-  starts-here r h e = rw (le-leb at (length s) h) (rw (take-all (length s - at) (drop at s) (le-of-eq (length-drop at s))) at e)
+  starts-here r h e = rw (le-leb at (length text) h) (rw (take-all (length text - at) (drop at text) (le-of-eq (length-drop at text))) at e)
 
 pub ruleset starts-laws = (starts-past, starts-here)
 
 -- ---- the value of a key
 
-begins-le : (key s : List ℕ) → beginsWith key s ≡ true → length key ≤ length s
-begins-le key s e = ⊎-elim (λ (h : length s < length key). absurd (false≢true (key-long key s h ∙ e))) (λ (h : length key ≤ length s). h) (lt-or-le (length s) (length key))
+begins-le : (key text : List ℕ) → beginsWith key text ≡ true → length key ≤ length text
+begins-le key text e = ⊎-elim (λ (h : length text < length key). absurd (false≢true (key-long key text h ∙ e))) (λ (h : length key ≤ length text). h) (lt-or-le (length text) (length key))
 
-module _ (s key : List ℕ) (at : ℕ) (r : Bool) (e : r ≡ startsWith s at key) where
-  pub starts-le : not r ≡ false → at + length key ≤ length s
+module _ (text key : List ℕ) (at : ℕ) (r : Bool) (e : r ≡ startsWith text at key) where
+  pub starts-le : not r ≡ false → at + length key ≤ length text
   unfolding startsWith
   starts-le h =
-      let g : leb at (length s) && beginsWith key (drop at s) ≡ true = sym e ∙ not-false r h in
-      omega (arith, leb-true at (length s) (and-left _ _ g), begins-le key (drop at s) (and-right (leb at (length s)) _ g), length-drop at s)
+      let g : leb at (length text) && beginsWith key (drop at text) ≡ true = sym e ∙ not-false r h in
+      omega (arith, leb-true at (length text) (and-left _ _ g), begins-le key (drop at text) (and-right (leb at (length text)) _ g), length-drop at text)
 
-  pub value-missing : not r ≡ true → Missing ≡ valueAt s at key
+  pub value-missing : not r ≡ true → Missing ≡ valueAt text at key
   unfolding valueAt
   value-missing h = rw (← e, not-true r h)
 
-  pub value-found : (to : ℕ) → not r ≡ false → to ≡ wordEnd s (at + length key) → Found (at + length key) to ≡ valueAt s at key
+  pub value-found : (to : ℕ) → not r ≡ false → to ≡ wordEnd text (at + length key) → Found (at + length key) to ≡ valueAt text at key
   unfolding valueAt
   value-found to h f = rw (← e, not-false r h, f)
 

@@ -1,4 +1,4 @@
--- What stands in the middle of a buffer, moved to its front.
+-- What stands in the middle of a buffer, moved to its front. To believe: movedToFront.
 use Prim.Native.Nat.{ℕ, _-_}
 use mathlib.Core.List.{List}
 use lib.ListN.{take, drop}
@@ -6,4 +6,4 @@ use Rattle.bits.specs.Put.{put}
 
 -- the bytes from index from up to index to, as far as there are any, over the front
 unfoldable pub movedToFront : ℕ → ℕ → List ℕ → List ℕ
-movedToFront from to s = put 0 (take (to - from) (drop from s)) s
+movedToFront from to buf = put 0 (take (to - from) (drop from buf)) buf

@@ -1,4 +1,4 @@
--- Worked cases of the definitions, computed; each list of bytes has its text above it.
+-- Worked cases of the definitions, computed; each list of bytes has its text above it. No contract cites them.
 use Prim.Native.Nat.{ℕ}
 use mathlib.Core.Path.{_≡_, refl}
 use mathlib.Core.List.{List, [], _∷_, map}
@@ -46,7 +46,7 @@ pub hex-read : map hexNumber
 unfolding hexNumber empty allDigits hexValue valueFrom
 hex-read = refl
 
--- `1f20`, `0100`, `0`, `00` and nothing, without leading zeros
+-- `1f20`, `0100`, `0`, `00`, nothing without leading zeros
 pub hex-plain-read : map hexPlain
     ((49 ∷ 102 ∷ 50 ∷ 48 ∷ [])
     ∷ (48 ∷ 49 ∷ 48 ∷ 48 ∷ [])
@@ -63,7 +63,7 @@ pub hex-plain-read : map hexPlain
 unfolding plainly plain hexNumber empty allDigits hexValue valueFrom
 hex-plain-read = refl
 
--- `0`, `15`, `4294967295`, `4294967296`, `007`, `1a` and nothing, up to 4294967295
+-- `0`, `15`, `4294967295`, `4294967296`, `007`, `1a`, nothing up to 4294967295
 pub decimal-read : map (decimalNumber 4294967295)
     ((48 ∷ [])
     ∷ (49 ∷ 53 ∷ [])

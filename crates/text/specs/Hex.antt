@@ -1,4 +1,4 @@
--- Numbers and bytes in hexadecimal.
+-- Numbers and bytes in hexadecimal, document 01, Captures: "hex is lower case". To believe: all of it.
 use Prim.Native.Nat.{ℕ, _+_, _*_, _/_, _%_}
 use mathlib.Core.Bool.{_&&_, not}
 use mathlib.Core.List.{List, [], _∷_}
@@ -16,12 +16,13 @@ use Rattle.text.specs.declared.hex.Spelled.the-variants.{Bytes, Bad as N
 
 -- the number of 1 to 16 digits, which 64 bits hold
 unfoldable pub hexNumber : List ℕ → Parsed
-hexNumber s = pick (not (empty s) && (leb (length s) 16 && allDigits 16 s)) (Number (value 16 s)) Bad
+hexNumber text = pick (not (empty text) && (leb (length text) 16 && allDigits 16 text)) (Number (value 16 text)) Bad
 
--- lower-case hex without leading zeros (0 for zero)
+-- the same without leading zeros: 0 for zero
 abbrev pub hexPlain : List ℕ → Parsed
-hexPlain s = plainly s (hexNumber s)
+hexPlain text = plainly text (hexNumber text)
 
+-- a number as its digits without leading zeros
 abbrev pub hexPlainText : ℕ → List ℕ
 hexPlainText n = plainText 16 n
 
@@ -29,11 +30,11 @@ hexPlainText n = plainText 16 n
 unfoldable pub pairs : List ℕ → List ℕ
 pairs [] = []
 pairs (a ∷ []) = []
-pairs (a ∷ b ∷ s) = (hexValue a * 16 + hexValue b) ∷ pairs s
+pairs (a ∷ b ∷ rest) = (hexValue a * 16 + hexValue b) ∷ pairs rest
 
--- any even number of lower-case hex digits, as bytes
+-- the bytes that any even number of digits spell
 unfoldable pub bytesSpelled : List ℕ → Option (List ℕ)
-bytesSpelled s = pick (eqb (length s % 2) 0 && allDigits 16 s) (some (pairs s)) none
+bytesSpelled text = pick (eqb (length text % 2) 0 && allDigits 16 text) (some (pairs text)) none
 
 -- how many bytes go over the front of out, where there are any and they fit
 unfoldable pub spelledAnswer : Option (List ℕ) → List ℕ → Spelled
@@ -57,4 +58,4 @@ frontOver most (some bytes) out = laid 0 (take most bytes) out
 -- two digits for every byte
 unfoldable pub hexText : List ℕ → List ℕ
 hexText [] = []
-hexText (b ∷ s) = hexDigit (b / 16) ∷ hexDigit b ∷ hexText s
+hexText (b ∷ rest) = hexDigit (b / 16) ∷ hexDigit b ∷ hexText rest

@@ -1,4 +1,4 @@
--- Bytes laid over a part of an output, where they fit.
+-- Bytes laid over a part of an output, where they fit. To believe: laid, after, fits.
 use Prim.Native.Nat.{ℕ, _+_}
 use mathlib.Core.Bool.{Bool}
 use mathlib.Core.List.{List}
@@ -7,6 +7,7 @@ use lib.ListN.{length}
 use Rattle.bits.specs.Choice.{pick}
 use Rattle.bits.specs.Put.{put}
 
+-- whether src fits into out from index at on
 abbrev pub fits : ℕ → List ℕ → List ℕ → Bool
 fits at src out = leb (at + length src) (length out)
 

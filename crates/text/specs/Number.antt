@@ -1,4 +1,5 @@
 -- Numbers in a base, the highest digit first.
+-- To believe: plain, plainly, numberIn, digits, digitCount, plainText and what they are made of.
 use Prim.Native.Nat.{ℕ, zero, suc, _+_, _*_, _/_, _%_}
 use mathlib.Core.Bool.{Bool, true, false, _&&_, not}
 use mathlib.Core.List.{List, [], _∷_, _++_}
@@ -13,30 +14,30 @@ use Rattle.text.specs.declared.number.Parsed.the-variants.{Number, Bad}
 -- the number that digits mean after the number v
 unfoldable pub valueFrom : ℕ → ℕ → List ℕ → ℕ
 valueFrom base v [] = v
-valueFrom base v (b ∷ s) = valueFrom base (v * base + hexValue b) s
+valueFrom base v (b ∷ rest) = valueFrom base (v * base + hexValue b) rest
 
 -- the number that digits mean
 abbrev pub value : ℕ → List ℕ → ℕ
-value base s = valueFrom base 0 s
+value base text = valueFrom base 0 text
 
 -- without leading zeros: a first digit 0 stands alone
 unfoldable pub plain : List ℕ → Bool
 plain [] = true
 plain (b ∷ []) = true
-plain (b ∷ c ∷ s) = not (eqb (hexValue b) 0)
+plain (b ∷ c ∷ rest) = not (eqb (hexValue b) 0)
 
 -- a number as read, where it has no leading zeros
 unfoldable pub plainly : List ℕ → Parsed → Parsed
-plainly s p = pick (plain s) p Bad
+plainly text p = pick (plain text) p Bad
 
 -- whether there is no byte
 unfoldable pub empty : List ℕ → Bool
 empty [] = true
-empty (b ∷ s) = false
+empty (b ∷ rest) = false
 
--- a number, where s is digits, one at least, and it is not above most
+-- a number, where text is digits, one at least, and it is not above most
 unfoldable pub numberIn : ℕ → ℕ → List ℕ → Parsed
-numberIn base most s = pick (not (empty s) && (allDigits base s && leb (value base s) most)) (Number (value base s)) Bad
+numberIn base most text = pick (not (empty text) && (allDigits base text && leb (value base text) most)) (Number (value base text)) Bad
 
 -- ---- printed
 

@@ -1,27 +1,27 @@
 // Decimal numbers without leading zeros.
 use crate::number::Parsed;
-use crate::number::digit_count;
 use crate::number::is_plain;
 use crate::number::number_in;
-use crate::number::put_digits;
+use crate::number::put_plain;
 ghost use mathlib.Core.Path.{_≡_};
 ghost use Rattle.text.specs.Laid.{laid, after};
 ghost use Rattle.text.specs.Decimal.{decimalNumber, decimalText};
 
-// The number that s spells, where it is not above most.
-pub fn decimal(s: &[u8], most: u64) -> Parsed
-    ensures { λ r. ⌜ r ≡ decimalNumber most (now (s .entry)) ⌝ }
+// The number that a text spells, where it is not above most.
+pub fn decimal(text: &[u8], most: u64) -> Parsed
+    ensures { λ r. ⌜ r ≡ decimalNumber most (now (text .entry)) ⌝ }
 {
-    if !is_plain(s) {
+    if !is_plain(text) {
         return Parsed::Bad;
     }
-    number_in(s, 10, most)
+    number_in(text, 10, most)
 }
 
-// The digits of n, laid into out from index at on, and the index after them; at and nothing laid where they do not fit.
+// The digits of n, laid into out from index at on, and the index after them;
+// at and nothing laid where they do not fit.
 pub fn put_decimal(n: u64, at: usize, out: &mut [u8]) -> usize
-    ensures { λ r. ⌜ (r ≡ after at (decimalText n) (now (out .entry))) × (now (out .exit) ≡ laid at (decimalText n) (now (out .entry))) ⌝ }
+    ensures { λ r. ⌜ r ≡ after at (decimalText n) (now (out .entry)) ⌝ }
+    ensures { λ _. ⌜ now (out .exit) ≡ laid at (decimalText n) (now (out .entry)) ⌝ }
 {
-    let w = digit_count(n, 10);
-    put_digits(n, 10, w, at, out)
+    put_plain(n, 10, at, out)
 }

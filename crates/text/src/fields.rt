@@ -8,7 +8,8 @@ use crate::words::part;
 use crate::words::starts_with;
 use crate::words::value_at;
 ghost use mathlib.Core.Path.{_≡_};
-ghost use Rattle.text.specs.Fields.{lineStart, badField, parsedField, decimalAfter, hexAfter, plainHexAfter, keyAfter};
+ghost use Rattle.text.specs.Fields.{lineStart, badField, parsedField};
+ghost use Rattle.text.specs.Fields.{decimalAfter, hexAfter, plainHexAfter, keyAfter};
 
 // Whether the line is good up to here, the last value, and the index after it.
 pub struct Field {
@@ -52,31 +53,31 @@ fn parsed_field(parsed: Parsed, next: usize) -> Field
 }
 
 // A decimal number that is not above most, with its key just after the field before it.
-pub fn decimal_after(s: &[u8], before: Field, key: &[u8], most: u64) -> Field
-    ensures { λ r. ⌜ r ≡ decimalAfter (now (s .entry)) before (now (key .entry)) most ⌝ }
+pub fn decimal_after(line: &[u8], before: Field, key: &[u8], most: u64) -> Field
+    ensures { λ r. ⌜ r ≡ decimalAfter (now (line .entry)) before (now (key .entry)) most ⌝ }
 {
     if !before.good {
         return bad_field();
     }
-    let place = value_at(s, before.next, key);
+    let place = value_at(line, before.next, key);
     match place {
         Value::Missing => bad_field(),
-        Value::Found { from, to } => parsed_field(decimal(part(s, from, to), most), to),
+        Value::Found { from, to } => parsed_field(decimal(part(line, from, to), most), to),
     }
 }
 
-// A number in so many hexadecimal digits.
-pub fn hex_after(s: &[u8], before: Field, key: &[u8], width: usize) -> Field
-    ensures { λ r. ⌜ r ≡ hexAfter (now (s .entry)) before (now (key .entry)) width ⌝ }
+// A number in so many hexadecimal digits, likewise.
+pub fn hex_after(line: &[u8], before: Field, key: &[u8], width: usize) -> Field
+    ensures { λ r. ⌜ r ≡ hexAfter (now (line .entry)) before (now (key .entry)) width ⌝ }
 {
     if !before.good {
         return bad_field();
     }
-    let place = value_at(s, before.next, key);
+    let place = value_at(line, before.next, key);
     match place {
         Value::Missing => bad_field(),
         Value::Found { from, to } => {
-            let digits = part(s, from, to);
+            let digits = part(line, from, to);
             if digits.len() != width {
                 return bad_field();
             }
@@ -85,28 +86,28 @@ pub fn hex_after(s: &[u8], before: Field, key: &[u8], width: usize) -> Field
     }
 }
 
-// A hexadecimal number without leading zeros.
-pub fn plain_hex_after(s: &[u8], before: Field, key: &[u8]) -> Field
-    ensures { λ r. ⌜ r ≡ plainHexAfter (now (s .entry)) before (now (key .entry)) ⌝ }
+// A hexadecimal number without leading zeros, likewise.
+pub fn plain_hex_after(line: &[u8], before: Field, key: &[u8]) -> Field
+    ensures { λ r. ⌜ r ≡ plainHexAfter (now (line .entry)) before (now (key .entry)) ⌝ }
 {
     if !before.good {
         return bad_field();
     }
-    let place = value_at(s, before.next, key);
+    let place = value_at(line, before.next, key);
     match place {
         Value::Missing => bad_field(),
-        Value::Found { from, to } => parsed_field(hex_plain(part(s, from, to)), to),
+        Value::Found { from, to } => parsed_field(hex_plain(part(line, from, to)), to),
     }
 }
 
 // The key alone; the index is that of its value.
-pub fn key_after(s: &[u8], before: Field, key: &[u8]) -> Field
-    ensures { λ r. ⌜ r ≡ keyAfter (now (s .entry)) before (now (key .entry)) ⌝ }
+pub fn key_after(line: &[u8], before: Field, key: &[u8]) -> Field
+    ensures { λ r. ⌜ r ≡ keyAfter (now (line .entry)) before (now (key .entry)) ⌝ }
 {
     if !before.good {
         return bad_field();
     }
-    if !starts_with(s, before.next, key) {
+    if !starts_with(line, before.next, key) {
         return bad_field();
     }
     Field {

@@ -1,9 +1,10 @@
 // Hexadecimal in lower case: digits, numbers and bytes.
+use crate::number::MOST_64;
 use crate::number::Parsed;
-use crate::number::digit_count;
 use crate::number::is_plain;
 use crate::number::number_in;
 use crate::number::put_digits;
+use crate::number::put_plain;
 use crate::output::room;
 use bits::choice::lesser;
 use std::num::wrapping_sub_u8;
@@ -15,7 +16,8 @@ ghost use Rattle.text.specs.Digit.{hexValue, hexDigit, allDigits};
 ghost use Rattle.bits.specs.Put.{put};
 ghost use Rattle.text.specs.Laid.{laid, after};
 ghost use Rattle.text.specs.Number.{digits};
-ghost use Rattle.text.specs.Hex.{hexNumber, hexPlain, hexPlainText, pairs, bytesSpelled, spelledAnswer, spelledOver, frontAnswer, frontOver, hexText};
+ghost use Rattle.text.specs.Hex.{hexNumber, hexPlain, hexPlainText, hexText};
+ghost use Rattle.text.specs.Hex.{pairs, bytesSpelled, spelledAnswer, spelledOver, frontAnswer, frontOver};
 
 fn least(a: u8, b: u8) -> u8
     ensures { λ r. ⌜ r ≡ min a b ⌝ }
@@ -27,7 +29,8 @@ fn least(a: u8, b: u8) -> u8
 }
 
 // The value of a digit, 16 for a byte that is none. No other function looks at letters.
-// What stands below the first letter wraps around to above the last: with so few tests a loop looks at many bytes at once.
+// What stands below the first letter wraps around to above the last:
+// with so few tests a loop looks at many bytes at once.
 pub fn hex_value(b: u8) -> u8
     ensures { λ r. ⌜ r ≡ hexValue b ⌝ }
 {
@@ -39,7 +42,7 @@ pub fn hex_value(b: u8) -> u8
     letter
 }
 
-// The letter of n % 16.
+// The digit of n % 16, as its letter.
 pub fn hex_digit(n: u8) -> u8
     ensures { λ r. ⌜ r ≡ hexDigit n ⌝ }
 {
@@ -51,33 +54,34 @@ pub fn hex_digit(n: u8) -> u8
 }
 
 // The number that 1 to 16 digits spell.
-pub fn hex_number(s: &[u8]) -> Parsed
-    ensures { λ r. ⌜ r ≡ hexNumber (now (s .entry)) ⌝ }
+pub fn hex_number(text: &[u8]) -> Parsed
+    ensures { λ r. ⌜ r ≡ hexNumber (now (text .entry)) ⌝ }
 {
-    if 16 < s.len() {
+    if 16 < text.len() {
         return Parsed::Bad;
     }
-    number_in(s, 16, 18446744073709551615)
+    number_in(text, 16, MOST_64)
 }
 
 // The same without leading zeros.
-pub fn hex_plain(s: &[u8]) -> Parsed
-    ensures { λ r. ⌜ r ≡ hexPlain (now (s .entry)) ⌝ }
+pub fn hex_plain(text: &[u8]) -> Parsed
+    ensures { λ r. ⌜ r ≡ hexPlain (now (text .entry)) ⌝ }
 {
-    if !is_plain(s) {
+    if !is_plain(text) {
         return Parsed::Bad;
     }
-    hex_number(s)
+    hex_number(text)
 }
 
 // Whether every byte is a digit. It looks at all of them, with no early answer, so that it looks at many at once.
-pub fn hex_only(s: &[u8]) -> bool
-    ensures { λ r. ⌜ r ≡ allDigits 16 (now (s .entry)) ⌝ }
+pub fn hex_only(text: &[u8]) -> bool
+    ensures { λ r. ⌜ r ≡ allDigits 16 (now (text .entry)) ⌝ }
 {
+    // good says whether the bytes before index i are digits.
     let mut good = true;
     let mut i: usize = 0;
-    while i < s.len() {
-        good = good & (hex_value(s[i]) < 16);
+    while i < text.len() {
+        good = good & (hex_value(text[i]) < 16);
         i += 1;
     }
     good
@@ -96,59 +100,64 @@ fn join(a: u8, b: u8) -> u16
 }
 
 // Two letters in one number, the first of them lowest, so that one load reads both.
-fn pair_at(s: &[u8], at: usize) -> u16
-    requires { ⌜ at + 1 < length (now s) ⌝ }
-    ensures { λ r. ⌜ (r % 256 ≡ getD (now (s .entry)) at 0) × (r / 256 ≡ getD (now (s .entry)) (at + 1) 0) ⌝ }
+fn pair_at(text: &[u8], at: usize) -> u16
+    requires { ⌜ at + 1 < length (now text) ⌝ }
+    ensures { λ r. ⌜ (r % 256 ≡ getD (now (text .entry)) at 0) × (r / 256 ≡ getD (now (text .entry)) (at + 1) 0) ⌝ }
 {
-    join(s[at], s[at + 1])
+    join(text[at], text[at + 1])
 }
 
-// The first n bytes.
-fn lay_bytes(s: &[u8], n: usize, out: &mut [u8])
-    requires { ⌜ (2 * n ≤ length (now s)) × ((n ≤ length (now out)) × (allDigits 16 (now s) ≡ true)) ⌝ }
-    ensures { λ _. ⌜ now (out .exit) ≡ put 0 (take n (pairs (now (s .entry)))) (now (out .entry)) ⌝ }
+// The first n bytes that the digits of a text spell.
+fn lay_bytes(text: &[u8], n: usize, out: &mut [u8])
+    requires { ⌜ (2 * n ≤ length (now text)) × ((n ≤ length (now out)) × (allDigits 16 (now text) ≡ true)) ⌝ }
+    ensures { λ _. ⌜ now (out .exit) ≡ put 0 (take n (pairs (now (text .entry)))) (now (out .entry)) ⌝ }
 {
     let mut i: usize = 0;
     while i < n {
-        let pair = pair_at(s, 2 * i);
+        let pair = pair_at(text, 2 * i);
         out[i] = hex_value((pair % 256) as u8) * 16 + hex_value((pair / 256) as u8);
         i += 1;
     }
 }
 
-// How many bytes s spells, and the first most of them over the front of out; where it spells none, or those do not fit, out stays as it was.
-pub fn hex_front(s: &[u8], most: usize, out: &mut [u8]) -> Spelled
-    ensures { λ r. ⌜ (r ≡ frontAnswer most (bytesSpelled (now (s .entry))) (now (out .entry))) × (now (out .exit) ≡ frontOver most (bytesSpelled (now (s .entry))) (now (out .entry))) ⌝ }
+// How many bytes a text spells, and the first most of them over the front of out;
+// where it spells none, or those do not fit, out stays as it was.
+pub fn hex_front(text: &[u8], most: usize, out: &mut [u8]) -> Spelled
+    ensures { λ r. ⌜ r ≡ frontAnswer most (bytesSpelled (now (text .entry))) (now (out .entry)) ⌝ }
+    ensures { λ _. ⌜ now (out .exit) ≡ frontOver most (bytesSpelled (now (text .entry))) (now (out .entry)) ⌝ }
 {
-    if s.len() % 2 != 0 {
+    if text.len() % 2 != 0 {
         return Spelled::Bad;
     }
-    if !hex_only(s) {
+    if !hex_only(text) {
         return Spelled::Bad;
     }
-    let n = lesser(most, s.len() / 2);
+    let n = lesser(most, text.len() / 2);
     if out.len() < n {
         return Spelled::Bad;
     }
-    lay_bytes(s, n, out);
-    Spelled::Bytes(s.len() / 2)
+    lay_bytes(text, n, out);
+    Spelled::Bytes(text.len() / 2)
 }
 
-// The bytes that s spells, over the front of out; where it spells none, or they do not fit, out stays as it was.
-pub fn hex_bytes(s: &[u8], out: &mut [u8]) -> Spelled
-    ensures { λ r. ⌜ (r ≡ spelledAnswer (bytesSpelled (now (s .entry))) (now (out .entry))) × (now (out .exit) ≡ spelledOver (bytesSpelled (now (s .entry))) (now (out .entry))) ⌝ }
+// The bytes that a text spells, over the front of out; where it spells none, or they do not fit, out stays as it was.
+pub fn hex_bytes(text: &[u8], out: &mut [u8]) -> Spelled
+    ensures { λ r. ⌜ r ≡ spelledAnswer (bytesSpelled (now (text .entry))) (now (out .entry)) ⌝ }
+    ensures { λ _. ⌜ now (out .exit) ≡ spelledOver (bytesSpelled (now (text .entry))) (now (out .entry)) ⌝ }
 {
-    hex_front(s, s.len(), out)
+    hex_front(text, text.len(), out)
 }
 
-fn lay_hex(s: &[u8], at: usize, out: &mut [u8]) -> usize
-    requires { ⌜ at + 2 * length (now s) ≤ length (now out) ⌝ }
-    ensures { λ r. ⌜ (r ≡ at + 2 * length (now (s .entry))) × (now (out .exit) ≡ put at (hexText (now (s .entry))) (now (out .entry))) ⌝ }
+fn lay_hex(bytes: &[u8], at: usize, out: &mut [u8]) -> usize
+    requires { ⌜ at + 2 * length (now bytes) ≤ length (now out) ⌝ }
+    ensures { λ r. ⌜ r ≡ at + 2 * length (now (bytes .entry)) ⌝ }
+    ensures { λ _. ⌜ now (out .exit) ≡ put at (hexText (now (bytes .entry))) (now (out .entry)) ⌝ }
 {
+    // The digits of byte i go to index to.
     let mut i: usize = 0;
     let mut to = at;
-    while i < s.len() {
-        let b = s[i];
+    while i < bytes.len() {
+        let b = bytes[i];
         out[to] = hex_digit(b / 16);
         out[to + 1] = hex_digit(b);
         to += 2;
@@ -157,27 +166,30 @@ fn lay_hex(s: &[u8], at: usize, out: &mut [u8]) -> usize
     to
 }
 
-// Two digits for each byte of s, laid into out from index at on, and the index after them; at and nothing laid where they do not fit.
-pub fn put_hex(s: &[u8], at: usize, out: &mut [u8]) -> usize
-    ensures { λ r. ⌜ (r ≡ after at (hexText (now (s .entry))) (now (out .entry))) × (now (out .exit) ≡ laid at (hexText (now (s .entry))) (now (out .entry))) ⌝ }
+// Two digits for each byte, laid into out from index at on, and the index after them;
+// at and nothing laid where they do not fit.
+pub fn put_hex(bytes: &[u8], at: usize, out: &mut [u8]) -> usize
+    ensures { λ r. ⌜ r ≡ after at (hexText (now (bytes .entry))) (now (out .entry)) ⌝ }
+    ensures { λ _. ⌜ now (out .exit) ≡ laid at (hexText (now (bytes .entry))) (now (out .entry)) ⌝ }
 {
-    if !room(at, 2 * s.len(), out.len()) {
+    if !room(at, 2 * bytes.len(), out.len()) {
         return at;
     }
-    lay_hex(s, at, out)
+    lay_hex(bytes, at, out)
 }
 
-// The w lowest digits of n.
+// The w lowest digits of n, laid as put_hex lays its digits.
 pub fn put_hex_fixed(n: u64, w: usize, at: usize, out: &mut [u8]) -> usize
-    ensures { λ r. ⌜ (r ≡ after at (digits 16 w n) (now (out .entry))) × (now (out .exit) ≡ laid at (digits 16 w n) (now (out .entry))) ⌝ }
+    ensures { λ r. ⌜ r ≡ after at (digits 16 w n) (now (out .entry)) ⌝ }
+    ensures { λ _. ⌜ now (out .exit) ≡ laid at (digits 16 w n) (now (out .entry)) ⌝ }
 {
     put_digits(n, 16, w, at, out)
 }
 
-// The digits of n without leading zeros.
+// The digits of n without leading zeros, laid likewise.
 pub fn put_hex_plain(n: u64, at: usize, out: &mut [u8]) -> usize
-    ensures { λ r. ⌜ (r ≡ after at (hexPlainText n) (now (out .entry))) × (now (out .exit) ≡ laid at (hexPlainText n) (now (out .entry))) ⌝ }
+    ensures { λ r. ⌜ r ≡ after at (hexPlainText n) (now (out .entry)) ⌝ }
+    ensures { λ _. ⌜ now (out .exit) ≡ laid at (hexPlainText n) (now (out .entry)) ⌝ }
 {
-    let w = digit_count(n, 16);
-    put_digits(n, 16, w, at, out)
+    put_plain(n, 16, at, out)
 }

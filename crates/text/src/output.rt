@@ -16,24 +16,27 @@ pub(crate) fn room(at: usize, n: usize, len: usize) -> bool
     n <= len - at
 }
 
-fn lay_text(s: &[u8], at: usize, out: &mut [u8]) -> usize
-    requires { ⌜ at + length (now s) ≤ length (now out) ⌝ }
-    ensures { λ r. ⌜ (r ≡ at + length (now (s .entry))) × (now (out .exit) ≡ put at (now (s .entry)) (now (out .entry))) ⌝ }
+fn lay_text(text: &[u8], at: usize, out: &mut [u8]) -> usize
+    requires { ⌜ at + length (now text) ≤ length (now out) ⌝ }
+    ensures { λ r. ⌜ r ≡ at + length (now (text .entry)) ⌝ }
+    ensures { λ _. ⌜ now (out .exit) ≡ put at (now (text .entry)) (now (out .entry)) ⌝ }
 {
     let mut i: usize = 0;
-    while i < s.len() {
-        out[at + i] = s[i];
+    while i < text.len() {
+        out[at + i] = text[i];
         i += 1;
     }
     at + i
 }
 
-// The bytes of s, laid into out from index at on, and the index after them; at and nothing laid where they do not fit.
-pub fn put_text(s: &[u8], at: usize, out: &mut [u8]) -> usize
-    ensures { λ r. ⌜ (r ≡ after at (now (s .entry)) (now (out .entry))) × (now (out .exit) ≡ laid at (now (s .entry)) (now (out .entry))) ⌝ }
+// The bytes of a text, laid into out from index at on, and the index after them;
+// at and nothing laid where they do not fit.
+pub fn put_text(text: &[u8], at: usize, out: &mut [u8]) -> usize
+    ensures { λ r. ⌜ r ≡ after at (now (text .entry)) (now (out .entry)) ⌝ }
+    ensures { λ _. ⌜ now (out .exit) ≡ laid at (now (text .entry)) (now (out .entry)) ⌝ }
 {
-    if !room(at, s.len(), out.len()) {
+    if !room(at, text.len(), out.len()) {
         return at;
     }
-    lay_text(s, at, out)
+    lay_text(text, at, out)
 }

@@ -9,10 +9,10 @@ use Rattle.text.proofs.hex.hex_only.Statement.{statement}
 use Rattle.text.proofs.hex.hex_only.Tie as tie
 
 abbrev Inv-loop : tie.InvT-loop
-Inv-loop s good₀ i₀ good i = (i ≤ length s) × (good && allDigits 16 (drop i s) ≡ allDigits 16 s)
+Inv-loop text good₀ i₀ good i = (i ≤ length text) × (good && allDigits 16 (drop i text) ≡ allDigits 16 text)
 
 abbrev μ-loop : tie.MeasureT-loop
-μ-loop s good₀ i₀ good i = length s - i
+μ-loop text good₀ i₀ good i = length text - i
 
 loop-holds : tie.Need-loop-holds Inv-loop μ-loop
 loop-holds c = search needs

@@ -12,10 +12,10 @@ use Rattle.text.proofs.hex.lay_bytes.Statement.{statement}
 use Rattle.text.proofs.hex.lay_bytes.Tie as tie
 
 abbrev Inv-loop : tie.InvT-loop
-Inv-loop s n out₀ i₀ out i = (i ≤ n) × ((length out ≡ length out₀) × ((allDigits 16 (drop (2 * i) s) ≡ true) × (put i (take (n - i) (pairs (drop (2 * i) s))) out ≡ put 0 (take n (pairs s)) out₀)))
+Inv-loop text n out₀ i₀ out i = (i ≤ n) × ((length out ≡ length out₀) × ((allDigits 16 (drop (2 * i) text) ≡ true) × (put i (take (n - i) (pairs (drop (2 * i) text))) out ≡ put 0 (take n (pairs text)) out₀)))
 
 abbrev μ-loop : tie.MeasureT-loop
-μ-loop s n out₀ i₀ out i = n - i
+μ-loop text n out₀ i₀ out i = n - i
 
 loop-holds : tie.Need-loop-holds Inv-loop μ-loop
 loop-holds c = (search needs, (search needs, (search needs, search pair-laws)))

@@ -10,10 +10,10 @@ use Rattle.text.proofs.hex.lay_hex.Statement.{statement}
 use Rattle.text.proofs.hex.lay_hex.Tie as tie
 
 abbrev Inv-loop : tie.InvT-loop
-Inv-loop s at out₀ i₀ to₀ out i to = (i ≤ length s) × ((to ≡ at + 2 * i) × ((length out ≡ length out₀) × (put to (hexText (drop i s)) out ≡ put at (hexText s) out₀)))
+Inv-loop bytes at out₀ i₀ to₀ out i to = (i ≤ length bytes) × ((to ≡ at + 2 * i) × ((length out ≡ length out₀) × (put to (hexText (drop i bytes)) out ≡ put at (hexText bytes) out₀)))
 
 abbrev μ-loop : tie.MeasureT-loop
-μ-loop s at out₀ i₀ to₀ out i to = length s - i
+μ-loop bytes at out₀ i₀ to₀ out i to = length bytes - i
 
 loop-holds : tie.Need-loop-holds Inv-loop μ-loop
 loop-holds c = search needs

@@ -8,10 +8,10 @@ use Rattle.text.proofs.number.number_in.Statement.{statement}
 use Rattle.text.proofs.number.number_in.Tie as tie
 
 abbrev Inv-loop : tie.InvT-loop
-Inv-loop s base most v₀ i₀ v i = (i ≤ length s) × ((v ≤ most) × (numberFrom base most v (drop i s) ≡ numberIn base most s))
+Inv-loop text base most v₀ i₀ v i = (i ≤ length text) × ((v ≤ most) × (numberFrom base most v (drop i text) ≡ numberIn base most text))
 
 abbrev μ-loop : tie.MeasureT-loop
-μ-loop s base most v₀ i₀ v i = length s - i
+μ-loop text base most v₀ i₀ v i = length text - i
 
 returns : tie.Need-returns Inv-loop μ-loop
 returns c = search number-laws

@@ -9,10 +9,10 @@ use Rattle.text.proofs.output.lay_text.Statement.{statement}
 use Rattle.text.proofs.output.lay_text.Tie as tie
 
 abbrev Inv-loop : tie.InvT-loop
-Inv-loop s at out₀ i₀ out i = (i ≤ length s) × ((length out ≡ length out₀) × (put (at + i) (drop i s) out ≡ put at s out₀))
+Inv-loop text at out₀ i₀ out i = (i ≤ length text) × ((length out ≡ length out₀) × (put (at + i) (drop i text) out ≡ put at text out₀))
 
 abbrev μ-loop : tie.MeasureT-loop
-μ-loop s at out₀ i₀ out i = length s - i
+μ-loop text at out₀ i₀ out i = length text - i
 
 loop-holds : tie.Need-loop-holds Inv-loop μ-loop
 loop-holds c = (search needs, (search needs, search copy-laws))

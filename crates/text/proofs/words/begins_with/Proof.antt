@@ -8,10 +8,10 @@ use Rattle.text.proofs.words.begins_with.Statement.{statement}
 use Rattle.text.proofs.words.begins_with.Tie as tie
 
 abbrev Inv-loop : tie.InvT-loop
-Inv-loop s key i₀ i = (i ≤ length key) × (beginsWith (drop i key) (drop i s) ≡ beginsWith key s)
+Inv-loop text key i₀ i = (i ≤ length key) × (beginsWith (drop i key) (drop i text) ≡ beginsWith key text)
 
 abbrev μ-loop : tie.MeasureT-loop
-μ-loop s key i₀ i = length key - i
+μ-loop text key i₀ i = length key - i
 
 returns : tie.Need-returns Inv-loop μ-loop
 returns c = search key-laws

@@ -8,10 +8,10 @@ use Rattle.text.proofs.words.word_end.Statement.{statement}
 use Rattle.text.proofs.words.word_end.Tie as tie
 
 abbrev Inv-loop : tie.InvT-loop
-Inv-loop s at i₀ i = (i ≤ length s) × (i + wordLength (drop i s) ≡ wordEnd s at)
+Inv-loop line at i₀ i = (i ≤ length line) × (i + wordLength (drop i line) ≡ wordEnd line at)
 
 abbrev μ-loop : tie.MeasureT-loop
-μ-loop s at i₀ i = length s - i
+μ-loop line at i₀ i = length line - i
 
 lesser-requires : tie.Need-lesser-requires Inv-loop μ-loop
 lesser-requires c κs = search needs
