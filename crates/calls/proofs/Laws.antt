@@ -16,26 +16,26 @@ use Rattle.reads.specs.declared.table.Making.{Making}
 use Rattle.reads.specs.declared.table.Opening.{Opening}
 use Rattle.reads.specs.declared.table.Taking.{Taking}
 use Rattle.reads.specs.declared.table.Withdrawal.{Withdrawal}
-use Rattle.calls.specs.Sum.{sumFrom}
+use Rattle.calls.specs.Inner.Checksum.{checksumFrom}
 
 -- ---- numbers of a line
 
-pub four-lt : (s key : List ℕ) (before r : Field) → r ≡ hexAfter s before key 4 → r .value < 65536
-four-lt s key before r e = omega (arith, hex-after-lt s key before r 4 e)
+pub four-lt : (line key : List ℕ) (before r : Field) → r ≡ hexAfter line before key 4 → r .value < 65536
+four-lt line key before r e = omega (arith, hex-after-lt line key before r 4 e)
 
 -- ---- a store filled up to index i
 
-module _ (i b : ℕ) (s₀ s : List ℕ) (e : s ≡ replicate i b ++ drop i s₀) where
-  pub fill-next : length s ≡ length s₀ → i < length s → set s i b ≡ replicate (i + 1) b ++ drop (i + 1) s₀
-  fill-next k h = rw e (fill-more i b s₀ (omega arith))
+module _ (i b : ℕ) (store₀ store : List ℕ) (e : store ≡ replicate i b ++ drop i store₀) where
+  pub fill-next : length store ≡ length store₀ → i < length store → set store i b ≡ replicate (i + 1) b ++ drop (i + 1) store₀
+  fill-next k h = rw e (fill-more i b store₀ (omega arith))
 
-  pub fill-done : i ≤ length s₀ → length s ≡ length s₀ → length s ≤ i → s ≡ replicate (length s₀) b
+  pub fill-done : i ≤ length store₀ → length store ≡ length store₀ → length store ≤ i → store ≡ replicate (length store₀) b
   fill-done l k h =
-      let j : i ≡ length s₀ = omega arith in
-      let n : length s₀ ≤ i = omega arith in
-      rw (e, drop-of-length-le s₀ n, append-nil (replicate i b), j)
+      let j : i ≡ length store₀ = omega arith in
+      let n : length store₀ ≤ i = omega arith in
+      rw (e, drop-of-length-le store₀ n, append-nil (replicate i b), j)
 
--- ---- a sum up to index i
+-- ---- a checksum up to index i
 
 -- the product with the prime, from its parts
 pub prime-parts : (h p r : ℕ) → p ≡ (h / 4294967296 * 435 % 4294967296 * 4294967296 + h % 4294967296 * 435) % 2 ^ 64
@@ -44,17 +44,17 @@ prime-parts h p r e f =
     let low = h / 4294967296 * 435 % 4294967296 * 4294967296 + h % 4294967296 * 435 in
     let shifted = h % 16777216 * 1099511627776 in
     let wraps = h / 4294967296 * 435 / 4294967296 + h / 16777216 in
-    let whole : h * 1099511628211 ≡ low + shifted + wraps * 2 ^ 64 = omega arith in
-    rw (f, e, whole) (mod-add-mod low (2 ^ 64) shifted ∙ sym (add-mul-mod-self-right (low + shifted) wraps (2 ^ 64)))
+    let product : h * 1099511628211 ≡ low + shifted + wraps * 2 ^ 64 = omega arith in
+    rw (f, e, product) (mod-add-mod low (2 ^ 64) shifted ∙ sym (add-mul-mod-self-right (low + shifted) wraps (2 ^ 64)))
 
-module _ (i h x : ℕ) (s : List ℕ) (e : sumFrom h (drop i s) ≡ x) where
-  pub sum-next : (w r : ℕ) → i < length s → w ≡ getD s i 0 → r ≡ bitXor h w * 1099511628211 % 2 ^ 64 → sumFrom r (drop (i + 1) s) ≡ x
-  unfolding sumFrom
-  sum-next w r l f g = rw (g, f, add-one i) (rw (drop-cons s i 0 l) at e)
+module _ (i h x : ℕ) (bytes : List ℕ) (e : checksumFrom h (drop i bytes) ≡ x) where
+  pub checksum-next : (w r : ℕ) → i < length bytes → w ≡ getD bytes i 0 → r ≡ bitXor h w * 1099511628211 % 2 ^ 64 → checksumFrom r (drop (i + 1) bytes) ≡ x
+  unfolding checksumFrom
+  checksum-next w r l f g = rw (g, f, add-one i) (rw (drop-cons bytes i 0 l) at e)
 
-  pub sum-done : length s ≤ i → h ≡ x
-  unfolding sumFrom
-  sum-done l = rw (drop-of-length-le s l) at e
+  pub checksum-done : length bytes ≤ i → h ≡ x
+  unfolding checksumFrom
+  checksum-done l = rw (drop-of-length-le bytes l) at e
 
 -- ---- the table that a call hands back
 

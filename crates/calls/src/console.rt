@@ -1,30 +1,25 @@
-// What a script works on.
+// What a script works on: a table, and a store of which a part is lent.
 use reads::table::Table;
-use reads_rules::origin::Origin;
 use tlp::settings::Settings;
 
+// The most bytes of a line with its newline.
+pub(crate) const LINE_MOST: usize = 8300;
+
+// The most bytes of a store, and as many as are lent at first.
+pub(crate) const STORE_MOST: usize = 70000;
+
+pub(crate) const STORE_FIRST: usize = 65536;
+
 // Room for the longest store.
-pub type Space = [u8; 70000];
+pub(crate) type Space = [u8; STORE_MOST];
 
-// The table, and how many bytes of the store are lent.
-pub struct Console {
-    pub table: Table,
-    pub length: usize,
-}
-
-// Before the first `new`.
-pub fn first_console() -> Console {
-    let made = Table::make(
-        Settings {
-            mps: 128,
-            mrrs: 128,
-            rcb: 64,
-        },
-        0,
-    );
-    let t = made.table;
-    Console {
-        table: t,
-        length: 65536,
-    }
+// The table before the first `new`.
+pub(crate) fn first_table() -> Table {
+    let settings = Settings {
+        mps: 128,
+        mrrs: 128,
+        rcb: 64,
+    };
+    let made = Table::make(settings, 0);
+    made.table
 }

@@ -1,4 +1,5 @@
 // What a line prints: a text in a buffer, written whole with its newline.
+use crate::console::LINE_MOST;
 use byte_enables::Access;
 use reads::answer::MakeAnswer;
 use reads::answer::OpenAnswer;
@@ -16,7 +17,7 @@ use text::output::put_text;
 use text::words::part;
 
 // Room for every line.
-type Text = [u8; 8300];
+type Text = [u8; LINE_MOST];
 
 // Writes the first size bytes of a text, and a newline.
 fn write_line(text: &mut Text, size: usize) {
@@ -24,20 +25,10 @@ fn write_line(text: &mut Text, size: usize) {
     io::write_all(1, part(text, 0, end));
 }
 
-// A key, from index at on, and the index after it.
-fn put_key(key: &[u8], at: usize, text: &mut Text) -> usize {
-    put_text(key, at, text)
-}
-
-// A key and its number.
+// A key and its number, from index at on, and the index after them.
 fn put_number(key: &[u8], n: u64, at: usize, text: &mut Text) -> usize {
     let from = put_text(key, at, text);
     put_decimal(n, from, text)
-}
-
-fn put_plain_hex(key: &[u8], n: u64, at: usize, text: &mut Text) -> usize {
-    let from = put_text(key, at, text);
-    put_hex_plain(n, from, text)
 }
 
 fn put_bytes(key: &[u8], bytes: &[u8], at: usize, text: &mut Text) -> usize {
@@ -45,23 +36,23 @@ fn put_bytes(key: &[u8], bytes: &[u8], at: usize, text: &mut Text) -> usize {
     put_hex(bytes, from, text)
 }
 
-pub fn print_words(words: &[u8]) {
-    let mut text = [0u8; 8300];
-    let size = put_key(words, 0, &mut text);
+pub(crate) fn print_words(words: &[u8]) {
+    let mut text = [0u8; LINE_MOST];
+    let size = put_text(words, 0, &mut text);
     write_line(&mut text, size);
 }
 
-pub fn print_number(key: &[u8], n: u64) {
-    let mut text = [0u8; 8300];
+pub(crate) fn print_number(key: &[u8], n: u64) {
+    let mut text = [0u8; LINE_MOST];
     let size = put_number(key, n, 0, &mut text);
     write_line(&mut text, size);
 }
 
-pub fn print_bad() {
+pub(crate) fn print_bad() {
     print_words(b"bad");
 }
 
-pub fn print_new(a: MakeAnswer) {
+pub(crate) fn print_new(a: MakeAnswer) {
     match a {
         MakeAnswer::Made => print_words(b"new code=0"),
         MakeAnswer::Refused(n) => print_number(b"new code=", n as u64),
@@ -75,14 +66,14 @@ fn open_code(a: OpenAnswer) -> u32 {
     }
 }
 
-pub fn print_open(a: OpenAnswer, out: &[u8]) {
-    let mut text = [0u8; 8300];
+pub(crate) fn print_open(a: OpenAnswer, out: &[u8]) {
+    let mut text = [0u8; LINE_MOST];
     let at = put_number(b"open code=", open_code(a) as u64, 0, &mut text);
     let size = put_bytes(b" out=", out, at, &mut text);
     write_line(&mut text, size);
 }
 
-pub fn print_take(a: TakeAnswer) {
+pub(crate) fn print_take(a: TakeAnswer) {
     match a {
         TakeAnswer::More => print_words(b"take more"),
         TakeAnswer::Done => print_words(b"take done"),
@@ -93,14 +84,14 @@ pub fn print_take(a: TakeAnswer) {
     }
 }
 
-pub fn print_withdraw(a: WithdrawAnswer) {
+pub(crate) fn print_withdraw(a: WithdrawAnswer) {
     match a {
         WithdrawAnswer::Withdrawn => print_words(b"withdraw code=0"),
         WithdrawAnswer::Refused(n) => print_number(b"withdraw code=", n as u64),
     }
 }
 
-pub fn print_owed(a: OwedAnswer) {
+pub(crate) fn print_owed(a: OwedAnswer) {
     match a {
         OwedAnswer::Owed(n) => print_number(b"owed dw=", n),
         OwedAnswer::Refused(n) => print_number(b"owed code=", n as u64),
@@ -108,7 +99,8 @@ pub fn print_owed(a: OwedAnswer) {
 }
 
 fn put_access(a: Access, at: usize, text: &mut Text) -> usize {
-    let length = put_plain_hex(b" addr=", a.address, at, text);
+    let address = put_text(b" addr=", at, text);
+    let length = put_hex_plain(a.address, address, text);
     let first = put_number(b" len=", a.length as u64, length, text);
     let last = put_number(b" first=", a.first as u64, first, text);
     put_number(b" last=", a.last as u64, last, text)
@@ -124,7 +116,7 @@ fn put_request(q: ReadRequest, at: usize, text: &mut Text) -> usize {
 
 fn put_state(x: State, at: usize, text: &mut Text) -> usize {
     match x {
-        State::Free => put_key(b" free", at, text),
+        State::Free => put_text(b" free", at, text),
         State::Open(r) => {
             let q = r.request;
             let taken = put_request(q, at, text);
@@ -133,27 +125,23 @@ fn put_state(x: State, at: usize, text: &mut Text) -> usize {
     }
 }
 
-pub fn print_record(tag: u32, x: State) {
-    let mut text = [0u8; 8300];
-    let at = put_number(b"record tag=", tag as u64, 0, &mut text);
+pub(crate) fn print_record(tag: u64, x: State) {
+    let mut text = [0u8; LINE_MOST];
+    let at = put_number(b"record tag=", tag, 0, &mut text);
     let size = put_state(x, at, &mut text);
     write_line(&mut text, size);
 }
 
-// 4,096 bytes at most.
-pub fn print_bytes(bytes: &[u8]) {
-    let mut text = [0u8; 8300];
+// The bytes fit: a line shows 4,096 at most.
+pub(crate) fn print_bytes(bytes: &[u8]) {
+    let mut text = [0u8; LINE_MOST];
     let size = put_bytes(b"bytes ", bytes, 0, &mut text);
     write_line(&mut text, size);
 }
 
-fn put_sum(key: &[u8], sum: u64, at: usize, text: &mut Text) -> usize {
-    let from = put_text(key, at, text);
-    put_hex_fixed(sum, 16, from, text)
-}
-
-pub fn print_sum(sum: u64) {
-    let mut text = [0u8; 8300];
-    let size = put_sum(b"sum=", sum, 0, &mut text);
+pub(crate) fn print_checksum(sum: u64) {
+    let mut text = [0u8; LINE_MOST];
+    let at = put_text(b"sum=", 0, &mut text);
+    let size = put_hex_fixed(sum, 16, at, &mut text);
     write_line(&mut text, size);
 }

@@ -1,44 +1,50 @@
 // The lines of a script, one after the other.
-use crate::console::Console;
+use crate::console::LINE_MOST;
 use crate::console::Space;
 use crate::print::print_bad;
 use crate::run::run;
+use reads::table::Table;
 ghost use Prim.Native.Nat.{_≤_};
 ghost use lib.ListN.{length};
 
-// A line without its newline. With it, 8,300 bytes are not too many.
-fn answer_line(line: &[u8], c: Console, store: &mut Space) -> Console {
-    if 8300 <= line.len() {
-        print_bad();
-        return c;
-    }
-    run(line, c, store)
-}
-
-// The console after the lines, and where the first one that has no end yet starts.
-pub struct Answered {
-    pub console: Console,
-    pub used: usize,
-}
-
-pub fn answer_lines(text: &[u8], first: Console, store: &mut Space) -> Answered
-    ensures { λ r. ⌜ r .used ≤ length (now (text .entry)) ⌝ }
+// The index after the last newline: what follows it has no end yet.
+pub(crate) fn lines_end(text: &[u8]) -> usize
+    ensures { λ r. ⌜ r ≤ length (now (text .entry)) ⌝ }
 {
-    let mut c = first;
+    // No newline stands from index end on.
+    let mut end = text.len();
+    while 0 < end {
+        if text[end - 1] == b'\n' {
+            return end;
+        }
+        end -= 1;
+    }
+    end
+}
+
+// A line without its newline.
+fn answer_line(line: &[u8], t: Table, lent: &mut usize, store: &mut Space) -> Table {
+    if LINE_MOST <= line.len() {
+        print_bad();
+        return t;
+    }
+    run(line, t, lent, store)
+}
+
+// The table after the lines of a text.
+pub(crate) fn answer_lines(
+    text: &[u8],
+    first: Table,
+    lent: &mut usize,
+    store: &mut Space,
+) -> Table {
+    // The lines before index at are answered, and t is the table after them.
+    let mut t = first;
     let mut at: usize = 0;
     while at < text.len() {
         let end = bytes::scan::find(text, at, text.len(), b'\n');
-        if end == text.len() {
-            return Answered {
-                console: c,
-                used: at,
-            };
-        }
-        c = answer_line(&text[at..end], c, store);
+        t = answer_line(&text[at..end], t, lent, store);
         at = end + 1;
     }
-    Answered {
-        console: c,
-        used: at,
-    }
+    t
 }

@@ -53,7 +53,7 @@ pub struct Withdrawal {
 }
 
 // The tags that may be opened are those below.
-pub(crate) fn tag_limit(settings: Settings) -> u32
+pub fn tag_limit(settings: Settings) -> u32
     ensures { λ n. ⌜ n ≡ tagLimit settings ⌝ }
 {
     32

@@ -1,23 +1,21 @@
-use Prim.Native.Nat.{_-_, _≤_}
+-- The index after the last line is one behind the text where that line has no newline.
+use Prim.Native.Nat.{_+_, _-_, _≤_}
 use lib.ListN.{length}
 use borrow.Author.Needs.{needs}
 use Rattle.calls.proofs.script.answer_lines.Statement.{statement}
 use Rattle.calls.proofs.script.answer_lines.Tie as tie
 
 abbrev Inv-loop : tie.InvT-loop
-Inv-loop text store₀ c₀ at₀ store c at = at ≤ length text
+Inv-loop text lent₀ store₀ t₀ at₀ lent store t at = at ≤ length text + 1
 
 abbrev μ-loop : tie.MeasureT-loop
-μ-loop text store₀ c₀ at₀ store c at = length text - at
+μ-loop text lent₀ store₀ t₀ at₀ lent store t at = length text + 1 - at
 
 loop-holds : tie.Need-loop-holds Inv-loop μ-loop
 loop-holds c = search needs
 
 find-requires : tie.Need-find-requires Inv-loop μ-loop
 find-requires c κs = search needs
-
-returns : tie.Need-returns Inv-loop μ-loop
-returns c = search needs
 
 sub-answer-line : tie.Need-sub-answer-line Inv-loop μ-loop
 sub-answer-line c = search needs
@@ -40,8 +38,8 @@ loop-less c = search needs
 loop-again : tie.Need-loop-again Inv-loop μ-loop
 loop-again c = search needs
 
-returns-2 : tie.Need-returns-2 Inv-loop μ-loop
-returns-2 c = search needs
+returns : tie.Need-returns Inv-loop μ-loop
+returns c = search needs
 
 pub answer-lines-spec : {M : Type 1} → statement M
 answer-lines-spec =
@@ -51,7 +49,6 @@ answer-lines-spec =
     μ-loop
     loop-holds
     find-requires
-    returns
     sub-answer-line
     part-answer-line-start
     part-answer-line-end
@@ -59,4 +56,4 @@ answer-lines-spec =
     add-at
     loop-less
     loop-again
-    returns-2)
+    returns)

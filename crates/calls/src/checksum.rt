@@ -1,8 +1,8 @@
-// FNV-1a, 64 bits.
+// The checksum FNV-1a, 64 bits.
 use std::num::wrapping_add_u64;
 ghost use mathlib.Core.Path.{_≡_};
 ghost use Prim.Native.Nat.{_*_, _%_, _^_};
-ghost use Rattle.calls.specs.Sum.{sumOf};
+ghost use Rattle.calls.specs.Inner.Checksum.{checksum};
 
 // The product with the prime, 2^40 + 435, modulo 2^64.
 fn times_prime(hash: u64) -> u64
@@ -20,13 +20,14 @@ fn wide(b: u8) -> u64
     b as u64
 }
 
-pub fn sum_of(s: &[u8]) -> u64
-    ensures { λ r. ⌜ r ≡ sumOf (now (s .entry)) ⌝ }
+pub(crate) fn checksum(bytes: &[u8]) -> u64
+    ensures { λ r. ⌜ r ≡ checksum (now (bytes .entry)) ⌝ }
 {
+    // hash has the bytes before index i.
     let mut hash: u64 = 14695981039346656037;
     let mut i: usize = 0;
-    while i < s.len() {
-        hash = times_prime(hash ^ wide(s[i]));
+    while i < bytes.len() {
+        hash = times_prime(hash ^ wide(bytes[i]));
         i += 1;
     }
     hash

@@ -1,7 +1,7 @@
 use Rattle.calls.proofs.Laws.{handed-back}
 use borrow.Author.Needs.{needs}
-use Rattle.calls.proofs.run.run_withdraw.Statement.{statement}
-use Rattle.calls.proofs.run.run_withdraw.Tie as tie
+use Rattle.calls.proofs.table.withdraw_tag.Statement.{statement}
+use Rattle.calls.proofs.table.withdraw_tag.Tie as tie
 
 withdraw-requires : tie.Need-withdraw-requires
 withdraw-requires c κs = search needs
@@ -12,5 +12,5 @@ print-withdraw-requires c κs = search needs
 returns : tie.Need-returns
 returns c = search handed-back
 
-pub run-withdraw-spec : {M : Type 1} → statement M
-run-withdraw-spec = tie.close (tie.spec withdraw-requires print-withdraw-requires returns)
+pub withdraw-tag-spec : {M : Type 1} → statement M
+withdraw-tag-spec = tie.close (tie.spec withdraw-requires print-withdraw-requires returns)

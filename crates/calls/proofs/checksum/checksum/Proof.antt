@@ -1,18 +1,18 @@
-use Rattle.calls.proofs.Laws.{sum-next, sum-done}
--- What is still to be put in gives the sum of all.
+use Rattle.calls.proofs.Laws.{checksum-next, checksum-done}
+-- What is still to be put in gives the checksum of all.
 use Prim.Native.Nat.{_-_, _≤_}
 use mathlib.Core.Path.{_≡_}
 use lib.ListN.{length, drop}
 use borrow.Author.Needs.{needs}
-use Rattle.calls.specs.Sum.{sumFrom, sumOf}
-use Rattle.calls.proofs.sum.sum_of.Statement.{statement}
-use Rattle.calls.proofs.sum.sum_of.Tie as tie
+use Rattle.calls.specs.Inner.Checksum.{checksumFrom, checksum}
+use Rattle.calls.proofs.checksum.checksum.Statement.{statement}
+use Rattle.calls.proofs.checksum.checksum.Tie as tie
 
 abbrev Inv-loop : tie.InvT-loop
-Inv-loop s hash₀ i₀ hash i = (i ≤ length s) × (sumFrom hash (drop i s) ≡ sumOf s)
+Inv-loop bytes hash₀ i₀ hash i = (i ≤ length bytes) × (checksumFrom hash (drop i bytes) ≡ checksum bytes)
 
 abbrev μ-loop : tie.MeasureT-loop
-μ-loop s hash₀ i₀ hash i = length s - i
+μ-loop bytes hash₀ i₀ hash i = length bytes - i
 
 loop-holds : tie.Need-loop-holds Inv-loop μ-loop
 loop-holds c = search needs
@@ -33,13 +33,13 @@ loop-less : tie.Need-loop-less Inv-loop μ-loop
 loop-less c = search needs
 
 loop-again : tie.Need-loop-again Inv-loop μ-loop
-loop-again c = (search needs, search sum-next)
+loop-again c = (search needs, search checksum-next)
 
 returns : tie.Need-returns Inv-loop μ-loop
-returns c = search sum-done
+returns c = search checksum-done
 
-pub sum-of-spec : {M : Type 1} → statement M
-sum-of-spec =
+pub checksum-spec : {M : Type 1} → statement M
+checksum-spec =
     tie.close
     (tie.spec
     Inv-loop

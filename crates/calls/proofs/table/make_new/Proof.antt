@@ -1,7 +1,7 @@
 use Rattle.calls.proofs.Laws.{handed-back}
 use borrow.Author.Needs.{needs}
-use Rattle.calls.proofs.run.run_new.Statement.{statement}
-use Rattle.calls.proofs.run.run_new.Tie as tie
+use Rattle.calls.proofs.table.make_new.Statement.{statement}
+use Rattle.calls.proofs.table.make_new.Tie as tie
 
 fill-requires : tie.Need-fill-requires
 fill-requires c κs = search needs
@@ -18,6 +18,6 @@ same-length c = search needs
 returns : tie.Need-returns
 returns c = search handed-back
 
-pub run-new-spec : {M : Type 1} → statement M
-run-new-spec =
+pub make-new-spec : {M : Type 1} → statement M
+make-new-spec =
     tie.close (tie.spec fill-requires make-requires print-new-requires same-length returns)

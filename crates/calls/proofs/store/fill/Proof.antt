@@ -6,20 +6,20 @@ use mathlib.Core.List.{_++_}
 use lib.ListN.{length, length-set, replicate, drop}
 use native.Mathlib.Omega.{arith}
 use borrow.Author.Needs.{needs}
-use Rattle.calls.proofs.run.fill.Statement.{statement}
-use Rattle.calls.proofs.run.fill.Tie as tie
+use Rattle.calls.proofs.store.fill.Statement.{statement}
+use Rattle.calls.proofs.store.fill.Tie as tie
 
 abbrev Inv-loop : tie.InvT-loop
-Inv-loop s₀ b i₀ s i = (i ≤ length s₀) × ((length s ≡ length s₀) × (s ≡ replicate i b ++ drop i s₀))
+Inv-loop store₀ b i₀ store i = (i ≤ length store₀) × ((length store ≡ length store₀) × (store ≡ replicate i b ++ drop i store₀))
 
 abbrev μ-loop : tie.MeasureT-loop
-μ-loop s₀ b i₀ s i = length s₀ - i
+μ-loop store₀ b i₀ store i = length store₀ - i
 
 loop-holds : tie.Need-loop-holds Inv-loop μ-loop
 loop-holds c = search needs
 
-slice-write-s : tie.Need-slice-write-s Inv-loop μ-loop
-slice-write-s c = search needs
+slice-write-store : tie.Need-slice-write-store Inv-loop μ-loop
+slice-write-store c = search needs
 
 add-i : tie.Need-add-i Inv-loop μ-loop
 add-i c = search needs
@@ -43,7 +43,7 @@ fill-spec =
     Inv-loop
     μ-loop
     loop-holds
-    slice-write-s
+    slice-write-store
     add-i
     loop-less
     loop-again
