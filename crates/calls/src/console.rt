@@ -2,9 +2,6 @@
 use reads::table::Table;
 use tlp::settings::Settings;
 
-// The most bytes of a line with its newline.
-pub(crate) const LINE_MOST: usize = 8300;
-
 // The most bytes of a store, and as many as are lent at first.
 pub(crate) const STORE_MOST: usize = 70000;
 

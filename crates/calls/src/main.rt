@@ -1,23 +1,21 @@
 // A console for the table of open reads: a script of calls on standard input, a line of output for each of its lines.
-mod checksum;
 mod console;
 mod field;
 mod form;
-mod print;
 mod run;
 mod script;
 mod slots;
 mod store;
 mod table;
 
-use crate::console::LINE_MOST;
 use crate::console::STORE_FIRST;
 use crate::console::STORE_MOST;
 use crate::console::first_table;
-use crate::print::print_bad;
 use crate::script::answer_lines;
 use crate::script::lines_end;
 use bits::choice::lesser;
+use calls_printed::LINE_MOST;
+use calls_printed::print::print_bad;
 use text::buffer::move_to_front;
 ghost use Prim.Native.Nat.{_+_, _≤_, _<_};
 ghost use lib.ListN.{length};

@@ -1,5 +1,4 @@
 // One line: its first letters say which form it can have.
-use crate::print::print_bad;
 use crate::slots::run_force;
 use crate::slots::run_record;
 use crate::slots::run_settings;
@@ -14,6 +13,7 @@ use crate::table::run_take;
 use crate::table::run_withdraw;
 use bits::choice::lesser;
 use bits::word::byte_at;
+use calls_printed::print::print_bad;
 use reads::table::Table;
 use text::words::part;
 

@@ -1,8 +1,8 @@
 // The lines of a script, one after the other.
-use crate::console::LINE_MOST;
 use crate::console::Space;
-use crate::print::print_bad;
 use crate::run::run;
+use calls_printed::LINE_MOST;
+use calls_printed::print::print_bad;
 use reads::table::Table;
 ghost use Prim.Native.Nat.{_≤_};
 ghost use lib.ListN.{length};

@@ -1,29 +1,17 @@
 // Lines about the store.
-use crate::checksum::checksum;
 use crate::console::STORE_MOST;
 use crate::field::decimal_at_most;
 use crate::field::has_form;
 use crate::field::is_word;
-use crate::print::print_bad;
-use crate::print::print_bytes;
-use crate::print::print_checksum;
-use crate::print::print_number;
+use calls_printed::checksum::checksum;
+use calls_printed::print::print_bad;
+use calls_printed::print::print_bytes;
+use calls_printed::print::print_checksum;
+use calls_printed::print::print_number;
+use calls_printed::store::fill;
 use text::fields::line_start;
 use text::number::MOST_8;
 use text::number::MOST_64;
-ghost use mathlib.Core.Path.{_≡_};
-ghost use lib.ListN.{length, replicate};
-
-pub(crate) fn fill(store: &mut [u8], b: u8)
-    ensures { λ _. ⌜ now (store .exit) ≡ replicate (length (now (store .entry))) b ⌝ }
-{
-    // The bytes before index i are filled.
-    let mut i: usize = 0;
-    while i < store.len() {
-        store[i] = b;
-        i += 1;
-    }
-}
 
 // How many bytes are lent from here on: as the line says, or as before.
 pub(crate) fn run_store(line: &[u8], lent: usize, store: &mut [u8]) -> usize {

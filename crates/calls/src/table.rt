@@ -1,18 +1,17 @@
 // Lines that call the table. Each answers the table from here on.
-use crate::console::LINE_MOST;
 use crate::field::decimal_at_most;
 use crate::field::four_hex;
 use crate::field::has_form;
 use crate::field::is_word;
 use crate::form::read_part;
 use crate::form::settings_part;
-use crate::print::print_bad;
-use crate::print::print_new;
-use crate::print::print_open;
-use crate::print::print_owed;
-use crate::print::print_take;
-use crate::print::print_withdraw;
-use crate::store::fill;
+use calls_printed::LINE_MOST;
+use calls_printed::print::print_bad;
+use calls_printed::print::print_owed;
+use calls_printed::table::make_new;
+use calls_printed::table::open_into;
+use calls_printed::table::take_packet;
+use calls_printed::table::withdraw_tag;
 use reads::table::Table;
 use reads_rules::origin::Origin;
 use reads_rules::request::ReadRequest;
@@ -24,22 +23,6 @@ use text::number::MOST_64;
 use text::words::Value;
 use text::words::part;
 use text::words::value_at;
-ghost use mathlib.Core.Path.{_≡_};
-ghost use lib.ListN.{length, replicate};
-ghost use Rattle.reads.specs.OpenCall.{openCall};
-ghost use Rattle.reads.specs.TakeCall.{takeCall, takeStore};
-ghost use Rattle.reads.specs.OtherCalls.{makeCall, withdrawCall};
-
-fn make_new(o: Origin, store: &mut [u8]) -> Table
-    ensures { λ r. ⌜ r ≡ makeCall o .table ⌝ }
-    ensures { λ _. ⌜ now (store .exit) ≡ replicate (length (now (store .entry))) 0 ⌝ }
-{
-    fill(store, 0);
-    let made = Table::make(o.settings, o.requester);
-    let answer = made.answer;
-    print_new(answer);
-    made.table
-}
 
 pub(crate) fn run_new(line: &[u8], t: Table, store: &mut [u8]) -> Table {
     let front = settings_part(line, b"new mps=");
@@ -57,16 +40,6 @@ pub(crate) fn run_new(line: &[u8], t: Table, store: &mut [u8]) -> Table {
         },
         store,
     )
-}
-
-// The output is printed whole, also on a refusal.
-fn open_into(q: ReadRequest, tag: u32, t: Table, store: &[u8], out: &mut [u8]) -> Table
-    ensures { λ r. ⌜ r ≡ openCall t q tag (length (now (store .entry))) (length (now (out .entry))) .table ⌝ }
-{
-    let opening = t.open(q, tag, store, out);
-    let answer = opening.answer;
-    print_open(answer, out);
-    opening.table
 }
 
 // The most bytes of an output.
@@ -97,16 +70,6 @@ pub(crate) fn run_open(line: &[u8], t: Table, store: &[u8]) -> Table {
     open_within(q, tag.value as u32, out.value, t, store)
 }
 
-fn take_packet(packet: &[u8], t: Table, store: &mut [u8]) -> Table
-    ensures { λ r. ⌜ r ≡ takeCall t (now (packet .entry)) (length (now (store .entry))) .table ⌝ }
-    ensures { λ _. ⌜ now (store .exit) ≡ takeStore t (now (packet .entry)) (now (store .entry)) ⌝ }
-{
-    let taking = t.take(packet, store);
-    let answer = taking.answer;
-    print_take(answer);
-    taking.table
-}
-
 fn take_digits(digits: &[u8], t: Table, store: &mut [u8]) -> Table {
     let mut space = [0u8; LINE_MOST / 2];
     let spelled = hex_bytes(digits, &mut space);
@@ -128,15 +91,6 @@ pub(crate) fn run_take(line: &[u8], t: Table, store: &mut [u8]) -> Table {
         }
         Value::Found { from, to } => take_digits(part(line, from, line.len()), t, store),
     }
-}
-
-fn withdraw_tag(tag: u32, t: Table) -> Table
-    ensures { λ r. ⌜ r ≡ withdrawCall t tag .table ⌝ }
-{
-    let withdrawal = t.withdraw(tag);
-    let answer = withdrawal.answer;
-    print_withdraw(answer);
-    withdrawal.table
 }
 
 pub(crate) fn run_withdraw(line: &[u8], t: Table) -> Table {

@@ -1,7 +1,7 @@
-use Rattle.calls.proofs.Laws.{handed-back}
+use Rattle.calls_printed.proofs.Laws.{handed-back}
 use borrow.Author.Needs.{needs}
-use Rattle.calls.proofs.table.withdraw_tag.Statement.{statement}
-use Rattle.calls.proofs.table.withdraw_tag.Tie as tie
+use Rattle.calls_printed.proofs.table.withdraw_tag.Statement.{statement}
+use Rattle.calls_printed.proofs.table.withdraw_tag.Tie as tie
 
 withdraw-requires : tie.Need-withdraw-requires
 withdraw-requires c κs = search needs

@@ -1,7 +1,7 @@
-use Rattle.calls.proofs.Laws.{handed-back}
+use Rattle.calls_printed.proofs.Laws.{handed-back}
 use borrow.Author.Needs.{needs}
-use Rattle.calls.proofs.table.make_new.Statement.{statement}
-use Rattle.calls.proofs.table.make_new.Tie as tie
+use Rattle.calls_printed.proofs.table.make_new.Statement.{statement}
+use Rattle.calls_printed.proofs.table.make_new.Tie as tie
 
 fill-requires : tie.Need-fill-requires
 fill-requires c κs = search needs

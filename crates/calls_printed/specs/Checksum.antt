@@ -1,5 +1,5 @@
--- Serves the contract of checksum (src/checksum.rt).
 -- FNV-1a with 64 bits: each byte is put in by an exclusive or, before the product with the prime.
+-- To believe: checksum and what it is made of.
 use Prim.Native.Nat.{ℕ, _*_, _%_, _^_}
 use mathlib.Core.List.{List, [], _∷_}
 use lib.Bits.{bitXor}

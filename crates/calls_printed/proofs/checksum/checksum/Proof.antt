@@ -1,12 +1,12 @@
-use Rattle.calls.proofs.Laws.{checksum-next, checksum-done}
+use Rattle.calls_printed.proofs.Laws.{checksum-next, checksum-done}
 -- What is still to be put in gives the checksum of all.
 use Prim.Native.Nat.{_-_, _≤_}
 use mathlib.Core.Path.{_≡_}
 use lib.ListN.{length, drop}
 use borrow.Author.Needs.{needs}
-use Rattle.calls.specs.Inner.Checksum.{checksumFrom, checksum}
-use Rattle.calls.proofs.checksum.checksum.Statement.{statement}
-use Rattle.calls.proofs.checksum.checksum.Tie as tie
+use Rattle.calls_printed.specs.Checksum.{checksumFrom, checksum}
+use Rattle.calls_printed.proofs.checksum.checksum.Statement.{statement}
+use Rattle.calls_printed.proofs.checksum.checksum.Tie as tie
 
 abbrev Inv-loop : tie.InvT-loop
 Inv-loop bytes hash₀ i₀ hash i = (i ≤ length bytes) × (checksumFrom hash (drop i bytes) ≡ checksum bytes)

@@ -2,7 +2,7 @@
 use std::num::wrapping_add_u64;
 ghost use mathlib.Core.Path.{_≡_};
 ghost use Prim.Native.Nat.{_*_, _%_, _^_};
-ghost use Rattle.calls.specs.Inner.Checksum.{checksum};
+ghost use Rattle.calls_printed.specs.Checksum.{checksum};
 
 // The product with the prime, 2^40 + 435, modulo 2^64.
 fn times_prime(hash: u64) -> u64
@@ -20,7 +20,8 @@ fn wide(b: u8) -> u64
     b as u64
 }
 
-pub(crate) fn checksum(bytes: &[u8]) -> u64
+// The checksum of some bytes.
+pub fn checksum(bytes: &[u8]) -> u64
     ensures { λ r. ⌜ r ≡ checksum (now (bytes .entry)) ⌝ }
 {
     // hash has the bytes before index i.

@@ -1,7 +1,7 @@
-use Rattle.calls.proofs.Laws.{handed-back}
+use Rattle.calls_printed.proofs.Laws.{handed-back}
 use borrow.Author.Needs.{needs}
-use Rattle.calls.proofs.table.open_into.Statement.{statement}
-use Rattle.calls.proofs.table.open_into.Tie as tie
+use Rattle.calls_printed.proofs.table.open_into.Statement.{statement}
+use Rattle.calls_printed.proofs.table.open_into.Tie as tie
 
 open-requires : tie.Need-open-requires
 open-requires c κs = search needs

@@ -1,7 +1,7 @@
-use Rattle.calls.proofs.Laws.{handed-back}
+use Rattle.calls_printed.proofs.Laws.{handed-back}
 use borrow.Author.Needs.{needs}
-use Rattle.calls.proofs.table.take_packet.Statement.{statement}
-use Rattle.calls.proofs.table.take_packet.Tie as tie
+use Rattle.calls_printed.proofs.table.take_packet.Statement.{statement}
+use Rattle.calls_printed.proofs.table.take_packet.Tie as tie
 
 take-requires : tie.Need-take-requires
 take-requires c κs = search needs

@@ -1,5 +1,5 @@
-// What a line prints: a text in a buffer, written whole with its newline.
-use crate::console::LINE_MOST;
+// What a line prints: a text in a buffer, written whole with its newline. These functions answer nothing.
+use crate::LINE_MOST;
 use byte_enables::Access;
 use reads::answer::MakeAnswer;
 use reads::answer::OpenAnswer;
@@ -36,19 +36,22 @@ fn put_bytes(key: &[u8], bytes: &[u8], at: usize, text: &mut Text) -> usize {
     put_hex(bytes, from, text)
 }
 
-pub(crate) fn print_words(words: &[u8]) {
+// A line of words.
+pub fn print_words(words: &[u8]) {
     let mut text = [0u8; LINE_MOST];
     let size = put_text(words, 0, &mut text);
     write_line(&mut text, size);
 }
 
-pub(crate) fn print_number(key: &[u8], n: u64) {
+// A line of a key and its number.
+pub fn print_number(key: &[u8], n: u64) {
     let mut text = [0u8; LINE_MOST];
     let size = put_number(key, n, 0, &mut text);
     write_line(&mut text, size);
 }
 
-pub(crate) fn print_bad() {
+// What a line prints that has no form or asks for too much.
+pub fn print_bad() {
     print_words(b"bad");
 }
 
@@ -91,7 +94,8 @@ pub(crate) fn print_withdraw(a: WithdrawAnswer) {
     }
 }
 
-pub(crate) fn print_owed(a: OwedAnswer) {
+// What `owed` answered.
+pub fn print_owed(a: OwedAnswer) {
     match a {
         OwedAnswer::Owed(n) => print_number(b"owed dw=", n),
         OwedAnswer::Refused(n) => print_number(b"owed code=", n as u64),
@@ -125,21 +129,23 @@ fn put_state(x: State, at: usize, text: &mut Text) -> usize {
     }
 }
 
-pub(crate) fn print_record(tag: u64, x: State) {
+// What is kept of a tag.
+pub fn print_record(tag: u64, x: State) {
     let mut text = [0u8; LINE_MOST];
     let at = put_number(b"record tag=", tag, 0, &mut text);
     let size = put_state(x, at, &mut text);
     write_line(&mut text, size);
 }
 
-// The bytes fit: a line shows 4,096 at most.
-pub(crate) fn print_bytes(bytes: &[u8]) {
+// Bytes of the store; 4,096 at most, so that they fit.
+pub fn print_bytes(bytes: &[u8]) {
     let mut text = [0u8; LINE_MOST];
     let size = put_bytes(b"bytes ", bytes, 0, &mut text);
     write_line(&mut text, size);
 }
 
-pub(crate) fn print_checksum(sum: u64) {
+// The store's checksum.
+pub fn print_checksum(sum: u64) {
     let mut text = [0u8; LINE_MOST];
     let at = put_text(b"sum=", 0, &mut text);
     let size = put_hex_fixed(sum, 16, at, &mut text);

@@ -1,7 +1,7 @@
 use borrow.Author.Needs.{needs}
-use Rattle.calls.proofs.Laws.{prime-parts}
-use Rattle.calls.proofs.checksum.times_prime.Statement.{statement}
-use Rattle.calls.proofs.checksum.times_prime.Tie as tie
+use Rattle.calls_printed.proofs.Laws.{prime-parts}
+use Rattle.calls_printed.proofs.checksum.times_prime.Statement.{statement}
+use Rattle.calls_printed.proofs.checksum.times_prime.Tie as tie
 
 mul-high : tie.Need-mul-high
 mul-high c = search needs

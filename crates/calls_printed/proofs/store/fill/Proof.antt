@@ -1,4 +1,4 @@
-use Rattle.calls.proofs.Laws.{fill-next, fill-done}
+use Rattle.calls_printed.proofs.Laws.{fill-next, fill-done}
 -- The first i bytes are b, the others as they were.
 use Prim.Native.Nat.{_-_, _≤_}
 use mathlib.Core.Path.{_≡_}
@@ -6,8 +6,8 @@ use mathlib.Core.List.{_++_}
 use lib.ListN.{length, length-set, replicate, drop}
 use native.Mathlib.Omega.{arith}
 use borrow.Author.Needs.{needs}
-use Rattle.calls.proofs.store.fill.Statement.{statement}
-use Rattle.calls.proofs.store.fill.Tie as tie
+use Rattle.calls_printed.proofs.store.fill.Statement.{statement}
+use Rattle.calls_printed.proofs.store.fill.Tie as tie
 
 abbrev Inv-loop : tie.InvT-loop
 Inv-loop store₀ b i₀ store i = (i ≤ length store₀) × ((length store ≡ length store₀) × (store ≡ replicate i b ++ drop i store₀))
