@@ -3,3 +3,4 @@ pub mod FieldLaws
 pub mod CountLaws
 pub mod WordLaws
 pub mod PutLaws
+pub mod SameLaws

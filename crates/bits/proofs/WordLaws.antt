@@ -2,15 +2,15 @@
 use mathlib.Core.Path.{_≡_, refl, sym, ap, _∙_}
 use mathlib.Core.List.{List, [], _∷_, _++_}
 use Prim.Native.Nat.{ℕ, zero, suc, _+_, _*_, _/_, _%_, _^_, _≤_, _<_, suc-le-suc}
-use native.Mathlib.Nat.{add-assoc, zero-add, add-zero, zero-mul, add-mul, mul-assoc, mul-comm, mod-lt, mod-eq-of-lt, mod-one, zero-lt-suc, one-le-pow, pow-suc, mul-add-div-right, mul-add-mod-self-right, suc-add, add-suc, div-add-mod', div-div-eq-div-mul}
+use native.Mathlib.Nat.{add-assoc, zero-add, add-zero, zero-mul, add-mul, mul-assoc, mul-comm, mod-lt, mod-eq-of-lt, mod-one, div-one, zero-lt-suc, one-le-pow, pow-suc, mul-add-div-right, mul-add-mod-self-right, suc-add, add-suc, div-add-mod', div-div-eq-div-mul}
 use native.Mathlib.Numerals.{add-one, one-add}
 use native.Mathlib.Omega.{arith}
 use lib.Arith.{digits-lt, digits-div, mod-mul}
 use lib.Pow.{pow-add}
-use lib.ListN.{length, getD, take, drop}
-use lib.Seq.{getD-append-add, drop-cons}
+use lib.ListN.{length, getD, take, drop, length-append}
+use lib.Seq.{getD-append-add, getD-at, getD-drop, drop-cons, take-all}
 use borrow.Author.Tests.{le-leb, lt-leb}
-use Rattle.bits.specs.Word.{word, wholeWord, bytes}
+use Rattle.bits.specs.Word.{word, wholeWord, bytes, Bytes}
 
 power : (k : ℕ) → 0 < 256 ^ k
 power k = one-le-pow k 256 (zero-lt-suc 255)
@@ -57,6 +57,13 @@ bytes-join (suc j) k a b h =
     let e : (a * 256 ^ k + b) / 256 ^ (j + k) ≡ a / 256 ^ j = rw (pow-add, mul-comm (256 ^ j) (256 ^ k), ← div-div-eq-div-mul, digits-div a h) in
     rw (suc-add, e) (ap (λ (l : List ℕ). a / 256 ^ j % 256 ∷ l) (bytes-join j k a b h))
 
+-- two bytes as one number
+pub pair-lt : (a b : ℕ) → a < 256 → b < 256 → a * 256 + b < 65536
+pair-lt a b h k = omega arith
+
+pub bytes-pair : (a b : ℕ) → a < 256 → b < 256 → bytes 2 (a * 256 + b) ≡ (a ∷ b ∷ [])
+bytes-pair a b h k = bytes-join 1 1 a b k ∙ rw (div-one a, div-one b, mod-eq-of-lt h, mod-eq-of-lt k)
+
 -- ---- there and back
 
 word-low : (k x : ℕ) (rest : List ℕ) → word k (bytes k x ++ rest) 0 ≡ x % 256 ^ k
@@ -68,7 +75,7 @@ word-low (suc k) x rest =
 pub word-bytes : (k x : ℕ) (rest : List ℕ) → x < 256 ^ k → word k (bytes k x ++ rest) 0 ≡ x
 word-bytes k x rest h = word-low k x rest ∙ mod-eq-of-lt h
 
--- every element is a byte
+-- every element is a byte, by the places that there are
 abbrev pub AllBytes : List ℕ → Type 0
 AllBytes src = (i : ℕ) → i < length src → getD src i 0 < 256
 
@@ -99,3 +106,23 @@ module _ (k : ℕ) (src : List ℕ) (i : ℕ) where
 
   pub whole-missing : length src < i + k → (0 ≡ wholeWord k src i) × (i + k ≤ length src → 0 ≡ word k src i)
   whole-missing h = (rw (lt-leb (i + k) (length src) h), λ l. absurd (omega arith))
+
+-- ---- lists of bytes
+
+pub bytes-drop : (xs : List ℕ) → Bytes xs → (n : ℕ) → Bytes (drop n xs)
+bytes-drop xs small n i = rw (getD-drop n xs i 0) (small (n + i))
+
+small-snoc : (xs : List ℕ) (c : ℕ) → Bytes xs → c < 256 → Bytes (xs ++ (c ∷ []))
+small-snoc [] c small h zero = h
+small-snoc [] c small h (suc i) = zero-lt-suc 255
+small-snoc (x ∷ xs) c small h zero = small zero
+small-snoc (x ∷ xs) c small h (suc i) = small-snoc xs c (λ j. small (suc j)) h i
+
+-- a number with one byte more
+pub bytes-snoc : (k x c : ℕ) → x < 256 ^ k → c < 256 → bytes (k + 1) (x * 256 + c) ≡ bytes k x ++ (c ∷ [])
+bytes-snoc k x c hx hc =
+    let l = bytes k x ++ (c ∷ []) in
+    let n : length l ≡ k + 1 = simp (length-append, length-bytes) in
+    let last : getD l (0 + k) 0 ≡ c = getD-at (bytes k x) c [] 0 (0 + k) (omega (arith, length-bytes k x)) in
+    let e : word (k + 1) l 0 ≡ x * 256 + c = omega (arith, word-split k 1 l 0, word-bytes k x (c ∷ []) hx) in
+    rw (← e) (bytes-word (k + 1) l (omega arith) (λ i h. small-snoc (bytes k x) c (bytes-small k x) hc i) ∙ take-all (k + 1) l (omega arith))

@@ -3,3 +3,4 @@ pub mod Field
 pub mod Word
 pub mod Count
 pub mod Put
+pub mod Same

@@ -6,3 +6,7 @@ use lib.ListN.{length, take, drop}
 -- out with src over it from index at on
 unfoldable pub put : ℕ → List ℕ → List ℕ → List ℕ
 put at src out = take at out ++ (src ++ drop (at + length src) out)
+
+-- out with xs over its front
+abbrev pub overFront : List ℕ → List ℕ → List ℕ
+overFront xs out = xs ++ drop (length xs) out

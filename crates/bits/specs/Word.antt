@@ -1,6 +1,6 @@
 -- Numbers of several bytes: "Multi-byte fields have the high byte first." All to be believed, but `wholeWord`, which
 -- serves only quick reading.
-use Prim.Native.Nat.{ℕ, zero, suc, _+_, _*_, _/_, _%_, _^_}
+use Prim.Native.Nat.{ℕ, zero, suc, _+_, _*_, _/_, _%_, _^_, _<_}
 use mathlib.Core.List.{List, [], _∷_}
 use lib.Dec.{leb}
 use lib.ListN.{getD, length}
@@ -23,3 +23,7 @@ wholeWord k src i = pick (leb (i + k) (length src)) (word k src i) 0
 abbrev pub bytes : ℕ → ℕ → List ℕ
 bytes zero x = []
 bytes (suc k) x = (x / 256 ^ k % 256) ∷ bytes k x
+
+-- a list of bytes: a place past the end reads as 0
+abbrev pub Bytes : List ℕ → Type 0
+Bytes xs = (i : ℕ) → byte xs i < 256

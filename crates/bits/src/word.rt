@@ -17,19 +17,20 @@ pub fn byte_at(src: &[u8], at: u32) -> u8
     0
 }
 
-fn join16(a: u8, b: u8) -> u16
+// Two numbers as one, the first above the second.
+pub fn join16(a: u8, b: u8) -> u16
     ensures { λ r. ⌜ r ≡ a * 256 + b ⌝ }
 {
     (a as u16) * 256 + (b as u16)
 }
 
-fn join32(a: u16, b: u16) -> u32
+pub fn join32(a: u16, b: u16) -> u32
     ensures { λ r. ⌜ r ≡ a * 65536 + b ⌝ }
 {
     (a as u32) * 65536 + (b as u32)
 }
 
-fn join64(a: u32, b: u32) -> u64
+pub fn join64(a: u32, b: u32) -> u64
     ensures { λ r. ⌜ r ≡ a * 4294967296 + b ⌝ }
 {
     (a as u64) * 4294967296 + (b as u64)

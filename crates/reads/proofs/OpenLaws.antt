@@ -12,7 +12,8 @@ use Rattle.tlp.specs.Rows.{Row, row, first}
 use Rattle.tlp.specs.Packets.{accessOf}
 use Rattle.tlp.proofs.RowLaws.{some-of, none-of, first-none}
 use Rattle.tlp_write.specs.Layout.{bytesOf, sizeOf}
-use Rattle.tlp_write.specs.Write.{writeAnswer, layAnswer, outAfter, layOut}
+use Rattle.tlp_write.specs.Write.{writeAnswer, outAfter}
+use Rattle.tlp_write.specs.Inner.Lay.{layAnswer, layOut}
 use Rattle.tlp_write.specs.declared.WriteAnswer.{WriteAnswer}
 use Rattle.tlp_write.specs.declared.WriteAnswer.the-variants.{Written, Refused as Unwritten}
 use Rattle.tlp.specs.declared.packet.Packet.{Packet}

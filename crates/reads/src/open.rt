@@ -26,7 +26,7 @@ ghost use lib.Dec.{eqb};
 ghost use lib.ListN.{length};
 ghost use Rattle.bits.specs.Choice.{pick};
 ghost use Rattle.tlp.specs.Rows.{row, first};
-ghost use Rattle.tlp_write.specs.Write.{layAnswer, layOut};
+ghost use Rattle.tlp_write.specs.Inner.Lay.{layAnswer, layOut};
 ghost use Rattle.reads.specs.Tables.{tableOf, sharesOpen};
 ghost use Rattle.reads.specs.OpenCall.{headerPacket, openCall, openOut};
 ghost use Rattle.reads.specs.Lent.{openingOf};

@@ -5,6 +5,7 @@ use mathlib.Core.Path.{_≡_}
 use mathlib.Core.Bool.{Bool, true, false, _&&_}
 use mathlib.Core.List.{List, [], _∷_, map}
 use lib.Dec.{eqb}
+use Rattle.bits.specs.Same.{sameList}
 use Rattle.bits.specs.Field.{low}
 use Rattle.bits.specs.Word.{byte}
 use Rattle.byte_enables.specs.declared.Access.{Access}
@@ -119,12 +120,6 @@ edges =
     ∷ []
 
 -- ---- what the claims mean
-
-abbrev pub sameList : List ℕ → List ℕ → Bool
-sameList [] [] = true
-sameList [] (y ∷ ys) = false
-sameList (x ∷ xs) [] = false
-sameList (x ∷ xs) (y ∷ ys) = eqb x y && sameList xs ys
 
 abbrev pub sameLists : List (List ℕ) → List (List ℕ) → Bool
 sameLists [] [] = true

@@ -8,21 +8,21 @@ use Rattle.tlp_write.specs.declared.WriteAnswer.the-variants.{Written, Refused 
 use Rattle.tlp_record_write.specs.RecordWrite.{recordAnswer}
 use Rattle.tlp_c.specs.Calls.{writeNumber, writtenSize}
 
-module _ (c : Settings) (s : List ℕ) (n room : ℕ) (x : WriteAnswer) (ex : x ≡ recordAnswer c s n room) where
+module _ (settings : Settings) (fields : List ℕ) (n room : ℕ) (x : WriteAnswer) (ex : x ≡ recordAnswer settings fields n room) where
   module _ (k : ℕ) (q : x ≡ NotWritten k) where
-    pub not-written-number : k ≡ writeNumber c s n room
+    pub not-written-number : k ≡ writeNumber settings fields n room
     unfolding writeNumber
     not-written-number = rw (← ex, q)
 
-    pub not-written-size : (old : ℕ) → old ≡ writtenSize c s n room old
+    pub not-written-size : (old : ℕ) → old ≡ writtenSize settings fields n room old
     unfolding writtenSize
     not-written-size old = rw (← ex, q)
 
   module _ (m : ℕ) (q : x ≡ Written m) where
-    pub written-number : 0 ≡ writeNumber c s n room
+    pub written-number : 0 ≡ writeNumber settings fields n room
     unfolding writeNumber
     written-number = rw (← ex, q)
 
-    pub written-size : (old : ℕ) → m ≡ writtenSize c s n room old
+    pub written-size : (old : ℕ) → m ≡ writtenSize settings fields n room old
     unfolding writtenSize
     written-size old = rw (← ex, q)

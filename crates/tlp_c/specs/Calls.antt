@@ -1,4 +1,4 @@
--- What the exported functions answer, by the packet definitions, and what they leave in what is lent to them.
+-- What the exported functions answer, by the packet definitions, and what they leave in what is lent to them. A reader must believe all of these.
 use Prim.Native.Nat.{ℕ}
 use mathlib.Core.List.{List}
 use Rattle.tlp.specs.declared.settings.Settings.{Settings}
@@ -18,8 +18,8 @@ sizeWritten (Written n) old = n
 sizeWritten (NotWritten r) old = old
 
 unfoldable pub writeNumber : Settings → List ℕ → ℕ → ℕ → ℕ
-writeNumber c s n room = numberOf (recordAnswer c s n room)
+writeNumber settings fields n room = numberOf (recordAnswer settings fields n room)
 
 -- the size afterwards: that of the packet, or as it was
 unfoldable pub writtenSize : Settings → List ℕ → ℕ → ℕ → ℕ → ℕ
-writtenSize c s n room old = sizeWritten (recordAnswer c s n room) old
+writtenSize settings fields n room old = sizeWritten (recordAnswer settings fields n room) old

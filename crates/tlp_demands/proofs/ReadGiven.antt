@@ -6,13 +6,12 @@ use mathlib.Core.List.{List}
 use native.Mathlib.Omega.{arith}
 use lib.Dec.{eqb}
 use lib.ListN.{length, drop}
-use lib.Seq.{getD-drop}
 use borrow.Author.Tests.{lt-leb, eq-eqb}
 use Rattle.bits.specs.Choice.{pick}
 use Rattle.bits.specs.Field.{field, low}
-use Rattle.bits.specs.Word.{byte, word}
+use Rattle.bits.specs.Word.{byte, word, Bytes}
 use Rattle.bits.proofs.FieldLaws.{field-at}
-use Rattle.bits.proofs.WordLaws.{word-split}
+use Rattle.bits.proofs.WordLaws.{word-split, bytes-drop}
 use Rattle.tlp.specs.PacketTypes.{familyOf, isIoOrConfig}
 use Rattle.tlp.specs.Sizes.{lengthAt, digestAt}
 use Rattle.tlp.specs.declared.settings.Settings.{Settings}
@@ -22,7 +21,6 @@ use Rattle.tlp.specs.declared.packet_type.PacketType.{PacketType}
 use Rattle.tlp.specs.declared.packet_type.PacketType.the-variants.{MRd32, MRd64, MWr32, MWr64, IORd, IOWr, CfgRd0, CfgWr0, CfgRd1, CfgWr1, Msg, MsgD, Cpl, CplD, Unlisted}
 use Rattle.tlp_read.specs.Fields.{packetAt, attributesAt, digestWord, implicitAt, routingAt, messageRouteAt, routeAt, kindAt, requestAt, configAt, messageAt, completionAt}
 use Rattle.tlp_writable.specs.Given.{over, lengthBad, commonBad, requestBad, configBad, messageBad, completionBad, ownBad, reservedGiven, addressRouteBad, idRouteBad, messageRouteBad, routeBad, givenRows}
-use Rattle.tlp_demands.specs.RoundTrips.{Bytes}
 use Rattle.tlp.specs.Rows.{NoneHold}
 use Rattle.tlp_demands.proofs.Tests.{or-false}
 use Rattle.tlp_demands.proofs.ReadRows.{Sound}
@@ -32,9 +30,6 @@ use Rattle.tlp_demands.proofs.ReadHeader.{attr-high, length-count, stat
 
 fits : (w x : ℕ) → x < 2 ^ w → over w x ≡ false
 fits w x h = lt-leb (2 ^ w) x h
-
-pub small-drop : (s : List ℕ) → Bytes s → (n : ℕ) → Bytes (drop n s)
-small-drop s small n i = rw (getD-drop n s i 0) (small (n + i))
 
 -- ---- what every packet has
 
@@ -69,7 +64,7 @@ module _ (s : List ℕ) (small : Bytes s) where
   common t =
       or-false (fits 3 (field (byte s 1) 4 3) (omega arith))
       (or-false (attr-fits (isIoOrConfig (familyOf t)) (field (byte s 1) 2 1) (field (byte s 2) 4 2) (omega arith) (omega arith))
-      (digest-fits (digestAt s) (word 4 (drop (length s - 4) s) 0) (word-small (drop (length s - 4) s) (small-drop s small (length s - 4)) 4 0)))
+      (digest-fits (digestAt s) (word 4 (drop (length s - 4) s) 0) (word-small (drop (length s - 4) s) (bytes-drop s small (length s - 4)) 4 0)))
 
   reserved : {c : Settings} (t : PacketType) → Sound c t s → reservedGiven (packetAt t s) ≡ false
   unfolding reservedGiven packetAt attributesAt

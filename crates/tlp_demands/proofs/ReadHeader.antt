@@ -9,7 +9,7 @@ use lib.Dec.{eqb, ltb}
 use lib.ListN.{length}
 use borrow.Author.Tests.{ltb-false}
 use Rattle.bits.specs.Field.{field, low, bit}
-use Rattle.bits.specs.Word.{byte, word, bytes}
+use Rattle.bits.specs.Word.{byte, word, bytes, Bytes}
 use Rattle.tlp.specs.Packets.{accessOf}
 use Rattle.tlp.specs.PacketTypes.{familyOf, isIoOrConfig}
 use Rattle.tlp.specs.Contents.{plainBad, notPlain}
@@ -22,7 +22,6 @@ use Rattle.tlp_read.specs.Fields.{packetAt, attributesAt, addressTypeAt, hintAt
 use Rattle.tlp_read.specs.Read.{hintOrAddressTypeSet, formBad}
 use Rattle.tlp_write.specs.Layout.{requestBytes, configBytes, messageBytes, completionBytes, memoryAddress, ownBytes, frontBytes, headerOf}
 use Rattle.bits.specs.Choice.{flag}
-use Rattle.tlp_demands.specs.RoundTrips.{Bytes}
 use Rattle.tlp_demands.proofs.Tests.{left-no, right-no}
 use Rattle.tlp_demands.proofs.ReadRows.{Sound}
 use Rattle.tlp_demands.proofs.ReadMasks.{under, whole-byte, memory-class, plain-class, other-class, digestBits, request-flags, data-flags, bare-flags, no-byte, enables-byte, extended-byte, register-byte, status-byte, lower-byte}

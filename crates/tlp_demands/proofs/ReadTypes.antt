@@ -11,7 +11,7 @@ use lib.ListN.{length}
 use borrow.Author.Tests.{lt-ltb, le-ltb, eqb-false, ltb-false}
 use Rattle.bits.specs.Choice.{pick}
 use Rattle.bits.specs.Field.{low}
-use Rattle.bits.specs.Word.{byte, word}
+use Rattle.bits.specs.Word.{byte, word, Bytes}
 use Rattle.bits.proofs.WordLaws.{word-split}
 use Rattle.tlp.specs.Reserved.{masks}
 use Rattle.tlp.specs.PacketTypes.{firstByte, headerDw, familyOf, isMessage}
@@ -24,7 +24,6 @@ use Rattle.tlp.specs.declared.packet_type.PacketType.the-variants.{MRd32, MRd64
 use Rattle.tlp_read.specs.Fields.{packetAt, routeAt, kindAt, requestAt, configAt, implicitAt, messageRouteAt, routingAt}
 use Rattle.tlp_read.specs.Read.{formBad, routingBad}
 use Rattle.tlp_write.specs.Layout.{routing, routingIn}
-use Rattle.tlp_demands.specs.RoundTrips.{Bytes}
 use Rattle.tlp_demands.proofs.ReadRows.{Sound}
 use Rattle.tlp_demands.proofs.ReadMasks.{type-byte}
 use Rattle.tlp_demands.proofs.ReadWords.{word-small}

@@ -8,15 +8,14 @@ use native.Mathlib.Numerals.{add-one}
 use native.Mathlib.Omega.{arith}
 use lib.Bits.{bitAnd}
 use lib.Dec.{eqb}
-use lib.ListN.{length, take, drop, replicate, length-append}
-use lib.Seq.{drop-cons, take-all, getD-at}
+use lib.ListN.{length, take, drop, replicate}
+use lib.Seq.{drop-cons}
 use borrow.Author.Tests.{eqb-true, eqb-false, le-leb}
 use Rattle.bits.specs.Choice.{pick}
-use Rattle.bits.specs.Word.{byte, word, bytes}
-use Rattle.bits.proofs.WordLaws.{word-split, word-lt, word-bytes, length-bytes, bytes-small, bytes-word, bytes-word-at}
+use Rattle.bits.specs.Word.{byte, word, bytes, Bytes}
+use Rattle.bits.proofs.WordLaws.{word-split, word-lt, bytes-word-at, bytes-snoc}
 use Rattle.tlp.specs.Sizes.{orMost}
 use Rattle.tlp_writable.specs.Given.{outside}
-use Rattle.tlp_demands.specs.RoundTrips.{Bytes}
 use Rattle.tlp_demands.proofs.ReadMasks.{under, whole-byte, address-byte}
 
 -- ---- a count of two bytes, with 0 for the largest
@@ -67,20 +66,6 @@ module _ (s : List ℕ) (small : Bytes s) where
   -- a word's bytes are those that it was read from
   pub word-under : (k i : ℕ) → i + k ≤ length s → bytes k (word k s i) ≡ under (replicate k 0xFF) i s
   word-under k i h = bytes-word-at k s i h (λ j l. small j) ∙ taken-under k i h
-
-small-snoc : (l : List ℕ) (c : ℕ) → Bytes l → c < 256 → Bytes (l ++ (c ∷ []))
-small-snoc [] c small h zero = h
-small-snoc [] c small h (suc i) = zero-lt-suc 255
-small-snoc (a ∷ l) c small h zero = small zero
-small-snoc (a ∷ l) c small h (suc i) = small-snoc l c (λ j. small (suc j)) h i
-
-bytes-snoc : (k x c : ℕ) → x < 256 ^ k → c < 256 → bytes (k + 1) (x * 256 + c) ≡ bytes k x ++ (c ∷ [])
-bytes-snoc k x c hx hc =
-    let l = bytes k x ++ (c ∷ []) in
-    let n : length l ≡ k + 1 = simp (length-append, length-bytes) in
-    let last : byte l (0 + k) ≡ c = getD-at (bytes k x) c [] 0 (0 + k) (omega (arith, length-bytes k x)) in
-    let e : word (k + 1) l 0 ≡ x * 256 + c = omega (arith, word-split k 1 l 0, word-bytes k x (c ∷ []) hx) in
-    rw (← e) (bytes-word (k + 1) l (omega arith) (λ i h. small-snoc (bytes k x) c (bytes-small k x) hc i) ∙ take-all (k + 1) l (omega arith))
 
 -- the bytes of an address, whose low two bits are cleared
 pub address-under : (s : List ℕ) (small : Bytes s) (k i : ℕ) → i + (k + 1) ≤ length s

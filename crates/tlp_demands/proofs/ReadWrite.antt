@@ -10,8 +10,8 @@ use lib.Seq.{take-all, drop-drop, length-take-le}
 use borrow.Author.Tests.{eq-eqb, le-ltb}
 use Rattle.bits.specs.Choice.{pick}
 use Rattle.bits.specs.Field.{low}
-use Rattle.bits.specs.Word.{byte, word, bytes}
-use Rattle.bits.proofs.WordLaws.{bytes-word}
+use Rattle.bits.specs.Word.{byte, word, bytes, Bytes}
+use Rattle.bits.proofs.WordLaws.{bytes-word, bytes-drop}
 use Rattle.byte_enables.specs.declared.Access.{Access}
 use Rattle.tlp.specs.PacketTypes.{typeAt, headerDw, familyOf, isIoOrConfig}
 use Rattle.tlp.specs.Rows.{row, NoneHold}
@@ -28,13 +28,13 @@ use Rattle.tlp_write.specs.Layout.{digestOf, bytesOf, sizeOf}
 use Rattle.tlp_write.specs.Write.{writeRows, writePacket}
 use Rattle.tlp_writable.specs.Given.{givenRows}
 use Rattle.tlp_write.specs.declared.WriteAnswer.the-variants.{Written}
-use Rattle.tlp_demands.specs.RoundTrips.{Bytes, ReadThenWrite}
+use Rattle.tlp_demands.specs.RoundTrips.{ReadThenWrite}
 use Rattle.tlp.proofs.RowLaws.{none-first, none-join}
 use Rattle.tlp_demands.proofs.ReadRows.{Sound, accepted}
 use Rattle.tlp_demands.proofs.ReadMasks.{masked-under}
 use Rattle.tlp_demands.proofs.ReadTypes.{same-type, same-data, masks-length}
 use Rattle.tlp_demands.proofs.ReadHeader.{header}
-use Rattle.tlp_demands.proofs.ReadGiven.{small-drop, given-none}
+use Rattle.tlp_demands.proofs.ReadGiven.{given-none}
 
 -- ---- data and digest
 
@@ -45,7 +45,7 @@ unfolding digestBytes
 tail-back true s h d small e =
     let m : length s - 4 ≡ h + d = omega arith in
     let n : length (drop (h + d) s) ≡ 4 = simp length-drop (omega arith) in
-    rw (m, bytes-word 4 (drop (h + d) s) (omega arith) (λ i l. small-drop s small (h + d) i), take-all 4 (drop (h + d) s) (omega arith), ← drop-drop d h s)
+    rw (m, bytes-word 4 (drop (h + d) s) (omega arith) (λ i l. bytes-drop s small (h + d) i), take-all 4 (drop (h + d) s) (omega arith), ← drop-drop d h s)
     (take-append-drop d (drop h s))
 tail-back false s h d small e = append-nil _ ∙ take-all d (drop h s) (simp length-drop (omega arith))
 

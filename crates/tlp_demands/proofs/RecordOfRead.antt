@@ -20,9 +20,9 @@ use Rattle.tlp.specs.declared.packet.Kind.the-variants.{MemoryRead, MemoryWrite
 use Rattle.tlp.specs.declared.packet.Packet.{Packet}
 use Rattle.tlp_writable.specs.Given.{lengthBad, requestBad, configBad, messageBad, completionBad, ownBad, addressRouteBad, idRouteBad, messageRouteBad, routeBad, givenRows}
 use Rattle.tlp.specs.Rows.{NoneHold}
-use Rattle.tlp_record.specs.declared.OwnFields.{OwnFields}
-use Rattle.tlp_record.specs.Record.{requestFields, configFields, messageFields, completionFields, ownOf, recordWith, recordOf, requestIn, configIn, messageIn, completionIn, kindIn, routeIn, recordPacket, isRecord}
-use Rattle.tlp_record.proofs.RecordLaws.{same-self}
+use Rattle.tlp_record.specs.declared.KindFields.{KindFields}
+use Rattle.tlp_record.specs.Record.{requestFields, configFields, messageFields, completionFields, fieldsOf, recordWith, recordOf, requestIn, configIn, messageIn, completionIn, kindIn, routeIn, recordPacket, isRecord}
+use Rattle.bits.proofs.SameLaws.{same-self}
 use Rattle.tlp_demands.specs.RecordOfRead.{RecordOfRead}
 use Rattle.tlp_demands.proofs.Tests.{left-no, right-no}
 use Rattle.tlp_demands.proofs.Fits.{fits, inside, request-fits, config-fits, message-fits, completion-fits, common-fits}
@@ -33,7 +33,7 @@ use Rattle.tlp_demands.proofs.ReadGiven.{given-none}
 -- ---- the packet back from its record
 
 -- the numbers of several bytes fit their places; a number of one byte is taken as it is
-record OwnFit (f : OwnFields) : Type 0 where
+record OwnFit (f : KindFields) : Type 0 where
   body : f .body < 256 ^ 8
   length : f .length < 256 ^ 4
   «byte_count» : f .«byte_count» < 256 ^ 4
@@ -47,16 +47,16 @@ RouteFit (Implied w) = Unit {0}
 
 -- the fields as each layout has them
 
-abbrev requestOf : OwnFields → Request
+abbrev requestOf : KindFields → Request
 requestOf f = record { requester = f .id; tag = f .tag; length = f .length; first = f .first; last = f .last }
 
-abbrev configOf : OwnFields → ConfigRequest
+abbrev configOf : KindFields → ConfigRequest
 configOf f = record { request = requestOf f; «extended_register» = f .«extended_register»; register = f .register }
 
-abbrev messageOf : OwnFields → MessageRequest
+abbrev messageOf : KindFields → MessageRequest
 messageOf f = record { requester = f .id; tag = f .tag; code = f .code; body = f .body }
 
-abbrev completionOf : OwnFields → CompletionHeader
+abbrev completionOf : KindFields → CompletionHeader
 completionOf f = record {
   completer = f .id;
   status = f .status;
@@ -66,7 +66,7 @@ completionOf f = record {
   «lower_address» = f .«lower_address»;
 }
 
-module _ (p : Packet) {f : OwnFields} (v : OwnFit f) where
+module _ (p : Packet) {f : KindFields} (v : OwnFit f) where
   request-back : requestIn (recordWith p f) ≡ requestOf f
   unfolding requestIn
   request-back = λ i. record {
@@ -104,7 +104,7 @@ module _ (p : Packet) {f : OwnFields} (v : OwnFit f) where
   length-back : word 4 (recordWith p f) 28 ≡ f .length
   length-back = word-bytes 4 (f .length) [] (v .length)
 
-kind-back : (p : Packet) (k : Kind) → OwnFit (ownOf k) → kindIn (recordWith p (ownOf k)) ≡ k
+kind-back : (p : Packet) (k : Kind) → OwnFit (fieldsOf k) → kindIn (recordWith p (fieldsOf k)) ≡ k
 unfolding kindIn
 kind-back p (MemoryRead q) v = ap MemoryRead (request-back p v)
 kind-back p (MemoryWrite q) v = ap MemoryWrite (request-back p v)
@@ -120,7 +120,7 @@ kind-back p (Completion c) v = ap Completion (completion-back p v)
 kind-back p (CompletionData c n) v = ap₂ CompletionData (completion-back p v) (length-back p v)
 
 -- an ID is in the last two of the eight bytes that an address takes
-route-back : (p : Packet) (f : OwnFields) (r : Route) → p .route ≡ r → RouteFit r → routeIn (recordWith p f) ≡ r
+route-back : (p : Packet) (f : KindFields) (r : Route) → p .route ≡ r → RouteFit r → routeIn (recordWith p f) ≡ r
 unfolding routeIn
 route-back p f (Address a) e v = rw e (ap Address (word-bytes 8 a [] v))
 route-back p f (Id n) e v = rw e (ap Id (word-bytes 2 n [] v))
@@ -129,7 +129,7 @@ route-back p f (Implied Broadcast) e v = rw e
 route-back p f (Implied Local) e v = rw e
 route-back p f (Implied Gathered) e v = rw e
 
-packet-back : (p : Packet) → OwnFit (ownOf (p .kind)) → RouteFit (p .route) → p .digest < 256 ^ 4 → recordPacket (recordOf p) ≡ p
+packet-back : (p : Packet) → OwnFit (fieldsOf (p .kind)) → RouteFit (p .route) → p .digest < 256 ^ 4 → recordPacket (recordOf p) ≡ p
 unfolding recordPacket recordOf
 packet-back p v r d = λ i. record {
   «traffic_class» = p .«traffic_class»;
@@ -137,7 +137,7 @@ packet-back p v r d = λ i. record {
   poisoned = flag-back (p .poisoned) _ refl i;
   «has_digest» = flag-back (p .«has_digest») _ refl i;
   digest = word-bytes 4 (p .digest) [] d i;
-  route = route-back p (ownOf (p .kind)) (p .route) refl r i;
+  route = route-back p (fieldsOf (p .kind)) (p .route) refl r i;
   kind = kind-back p (p .kind) v i;
 }
 
@@ -171,7 +171,7 @@ completion-fit n l c h e = let v = completion-fits c e in record {
   id = v .completer;
 }
 
-own-fit : (k : Kind) → ownBad k ≡ false → OwnFit (ownOf k)
+own-fit : (k : Kind) → ownBad k ≡ false → OwnFit (fieldsOf k)
 unfolding ownBad
 own-fit (MemoryRead q) e = request-fit 1 q e
 own-fit (MemoryWrite q) e = request-fit 2 q e

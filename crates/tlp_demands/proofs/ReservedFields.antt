@@ -11,12 +11,11 @@ use lib.ListN.{length, getD, drop, length-drop, List·getD-eq-default}
 use lib.Seq.{ext-getD, getD-drop}
 use borrow.Author.Tests.{eqb-true}
 use Rattle.bits.specs.Field.{field, low}
-use Rattle.bits.specs.Word.{byte, word}
+use Rattle.bits.specs.Word.{byte, word, Bytes}
 use Rattle.bits.proofs.WordLaws.{word-split}
 use Rattle.tlp.specs.Reserved.{masked, memoryFront, plainFront, dataFront, bareFront, whole, addressEnd, configEnd, completionEnd}
 use Rattle.tlp.specs.Sizes.{lengthAt}
 use Rattle.tlp_read.specs.Fields.{trafficClassAt, addressTypeAt, addressAt}
-use Rattle.tlp_demands.specs.RoundTrips.{Bytes}
 use Rattle.tlp_demands.proofs.ReadMasks.{whole-byte}
 
 -- ---- bytes under masks

@@ -5,21 +5,21 @@ use mathlib.Core.List.{List}
 use native.Mathlib.Omega.{arith}
 use lib.ListN.{length}
 use Rattle.bits.specs.Word.{byte}
+use Rattle.bits.proofs.SameLaws.{same-yes}
 use Rattle.tlp.specs.declared.packet.Kind.{Kind}
 use Rattle.tlp.specs.declared.packet.Kind.the-variants.{MemoryRead, MemoryWrite, IoRead, IoWrite, ConfigRead0, ConfigWrite0, ConfigRead1, ConfigWrite1, Message, MessageData, Completion, CompletionData}
-use Rattle.tlp_record.specs.Record.{ownOf, recordOf, recordPacket, isRecord}
+use Rattle.tlp_record.specs.Record.{fieldsOf, recordOf, recordPacket, isRecord}
 use Rattle.tlp_record.specs.RecordFacts.{RecordBack, RecordLength, RecordKind}
-use Rattle.tlp_record.proofs.RecordLaws.{same-yes}
 
 pub record-back : RecordBack
 unfolding isRecord
-record-back s e = same-yes (recordOf (recordPacket s)) s e
+record-back fields e = same-yes (recordOf (recordPacket fields)) fields e
 
 pub record-length : RecordLength
 unfolding recordOf
-record-length s e = sym (ap length (record-back s e))
+record-length fields e = sym (ap length (record-back fields e))
 
-kind-number : (k : Kind) → (1 ≤ ownOf k .kind) × (ownOf k .kind ≤ 12)
+kind-number : (k : Kind) → (1 ≤ fieldsOf k .kind) × (fieldsOf k .kind ≤ 12)
 kind-number (MemoryRead q) = (omega arith, omega arith)
 kind-number (MemoryWrite q) = (omega arith, omega arith)
 kind-number (IoRead q) = (omega arith, omega arith)
@@ -35,6 +35,6 @@ kind-number (CompletionData c n) = (omega arith, omega arith)
 
 pub record-kind : RecordKind
 unfolding recordOf
-record-kind s e =
-    let n : byte s 0 ≡ ownOf (recordPacket s .kind) .kind = sym (ap (λ (l : List ℕ). byte l 0) (record-back s e)) in
-    rw n (kind-number (recordPacket s .kind))
+record-kind fields e =
+    let n : byte fields 0 ≡ fieldsOf (recordPacket fields .kind) .kind = sym (ap (λ (l : List ℕ). byte l 0) (record-back fields e)) in
+    rw n (kind-number (recordPacket fields .kind))

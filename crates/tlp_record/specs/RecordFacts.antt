@@ -1,20 +1,21 @@
--- What holds of every packet record. Proved in proofs/RecordFacts.antt.
+-- What holds of every packet record: theorems, proved in proofs/RecordFacts.antt.
 use Prim.Native.Nat.{ℕ, _≤_}
 use mathlib.Core.Path.{_≡_}
 use mathlib.Core.Bool.{true}
 use mathlib.Core.List.{List}
 use lib.ListN.{length}
 use Rattle.bits.specs.Word.{byte}
+use Rattle.tlp_record.specs.Places.{recordSize, kindPlace}
 use Rattle.tlp_record.specs.Record.{recordOf, recordPacket, isRecord}
 
 -- A record is that of the packet that it describes.
 abbrev pub RecordBack : Type 0
-RecordBack = (s : List ℕ) → isRecord s ≡ true → recordOf (recordPacket s) ≡ s
+RecordBack = (fields : List ℕ) → isRecord fields ≡ true → recordOf (recordPacket fields) ≡ fields
 
 -- A record has 48 bytes.
 abbrev pub RecordLength : Type 0
-RecordLength = (s : List ℕ) → isRecord s ≡ true → length s ≡ 48
+RecordLength = (fields : List ℕ) → isRecord fields ≡ true → length fields ≡ recordSize
 
 -- A record has a known kind.
 abbrev pub RecordKind : Type 0
-RecordKind = (s : List ℕ) → isRecord s ≡ true → (1 ≤ byte s 0) × (byte s 0 ≤ 12)
+RecordKind = (fields : List ℕ) → isRecord fields ≡ true → (1 ≤ byte fields kindPlace) × (byte fields kindPlace ≤ 12)

@@ -1,6 +1,8 @@
 // The packet record: a packet as 48 bytes, and back. What it is stands in specs/; crate tlp_record_read lays it, crate tlp_record_write reads it.
-// A kind's number and its own fields, each 0 where the kind has none.
-pub struct OwnFields {
+pub mod places;
+
+// A kind's number and the fields that only some kinds have, each 0 where the kind has none.
+pub struct KindFields {
     pub kind: u8,
     pub tag: u8,
     pub code: u8,

@@ -11,7 +11,7 @@ use lib.Seq.{sets, sets-eq, length-sets}
 use borrow.Author.Tests.{eq-eqb, ne-eqb, eqb-true}
 use Rattle.bits.specs.Choice.{pick, flag}
 use Rattle.bits.specs.Word.{byte, word, bytes}
-use Rattle.bits.specs.Put.{put}
+use Rattle.bits.specs.Put.{put, overFront}
 use Rattle.bits.proofs.ChoiceLaws.{pick-ap}
 use Rattle.bits.proofs.WordLaws.{AllBytes, bytes-word}
 use borrow.Rule.Slice.PartMut.{putMid}
@@ -31,9 +31,8 @@ use Rattle.tlp_read.specs.Fields.{completerAt, statusAt, byteCountModifiedAt, b
 use Rattle.tlp_read.specs.Fields.{requestAt, configAt, messageAt, completionAt, implicitAt, messageRouteAt, routeAt, kindAt, packetAt}
 use Rattle.tlp_read.specs.Inner.Rows.{familyAt, Listed, addressRead}
 use Rattle.tlp_read.proofs.ReadReturns.{address-wide, address-narrow}
-use Rattle.tlp_write.specs.Write.{overFront}
-use Rattle.tlp_write.proofs.PutLaws.{copied, put-front, put-next}
-use Rattle.tlp_record.specs.Record.{ownOf, routeCase, routeValue, sizesPart, recordOf}
+use Rattle.bits.proofs.PutLaws.{copied, put-front, put-next}
+use Rattle.tlp_record.specs.Record.{fieldsOf, routeCase, routeValue, sizesPart, recordOf}
 use Rattle.tlp_record_read.specs.Inner.Lay.{frontRead, dataFlag, kindRead, lengthGiven, messageFront, requestPart, countedPart, registersPart, statusPart, recordRead, recordLaid}
 
 -- ---- laying
@@ -179,7 +178,7 @@ family-listed t g e h = rw e h
 
 module _ (packet : List ℕ) where
   abbrev ConfigKind : ℕ → PacketType → Type 0
-  ConfigKind b t = familyOf t ≡ Config → 5 + b % 2 * 2 + flag (hasData t) ≡ ownOf (kindAt t packet) .kind
+  ConfigKind b t = familyOf t ≡ Config → 5 + b % 2 * 2 + flag (hasData t) ≡ fieldsOf (kindAt t packet) .kind
 
   config-kinds : (b : ℕ) → ConfigKind b (typeAt b)
   unfolding kindAt
@@ -224,7 +223,7 @@ module _ (packet : List ℕ) where
 
   abbrev ConfigRecord : PacketType → Type 0
   ConfigRecord t =
-      sixParts (frontRead (ownOf (kindAt t packet) .kind) (lowAttributesAt packet) 1 (tagAt packet) 0 packet) (routeIdAt packet) 0 requestSizes (requestPart packet) (registersPart packet)
+      sixParts (frontRead (fieldsOf (kindAt t packet) .kind) (lowAttributesAt packet) 1 (tagAt packet) 0 packet) (routeIdAt packet) 0 requestSizes (requestPart packet) (registersPart packet)
       ≡ recordOf (packetAt t packet)
 
   config-record : (t : PacketType) → familyOf t ≡ Config → ConfigRecord t

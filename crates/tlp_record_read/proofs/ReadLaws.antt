@@ -19,7 +19,7 @@ use Rattle.tlp.proofs.FmtLaws.{fmt-law}
 use Rattle.bits.specs.Word.{byte}
 use Rattle.tlp_read.specs.Fields.{packetAt}
 use Rattle.tlp_read.specs.Read.{readRows, readPacket, answerOf}
-use Rattle.tlp_write.specs.Write.{overFront}
+use Rattle.bits.specs.Put.{overFront}
 use Rattle.tlp_record.specs.Record.{recordOf}
 use Rattle.tlp_record_read.specs.RecordRead.{readNumber, readRecord}
 

@@ -6,7 +6,7 @@ use lib.ListN.{length}
 use Rattle.bits.specs.Choice.{pick}
 use Rattle.tlp_read.specs.declared.ReadAnswer.{ReadAnswer}
 use Rattle.tlp_read.specs.declared.ReadAnswer.the-variants.{Accepted, Refused}
-use Rattle.tlp_write.specs.Write.{overFront}
+use Rattle.bits.specs.Put.{overFront}
 use Rattle.tlp_record.specs.Record.{recordOf}
 
 -- the number, 0 for accepted, of what reading answers and a record of room bytes

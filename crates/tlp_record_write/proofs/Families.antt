@@ -19,11 +19,11 @@ use Rattle.tlp.specs.Packets.{addressOf, typeIn, typeOf}
 use Rattle.tlp.specs.declared.packet_type.PacketType.{PacketType}
 use Rattle.tlp.specs.declared.packet_type.PacketType.the-variants.{MRd32, MRd64, MWr32, MWr64}
 use Rattle.tlp_writable.specs.Given.{outside, requestBad, configBad, messageBad, completionBad, ownBad, reservedGiven, addressRouteBad, idRouteBad, messageRouteBad, routeBad}
-use Rattle.tlp_record.specs.Record.{requestFields, configFields, messageFields, completionFields, ownOf, requestIn, configIn, messageIn, completionIn, kindNumbered, kindIn, routeNumbered, routeIn, recordPacket}
-use Rattle.tlp_record_write.specs.Fit.{writable}
-use Rattle.tlp_record_write.specs.Shared.{flagsKept, routeKept, sharedFits}
-use Rattle.tlp_record_write.specs.Kinds.{allZero, requestOver, configOver, completionOver, notAddress, notMessage, memoryFits, ioFits, configFits, messageFits, completionFits}
-use Rattle.tlp_record_write.proofs.Kept.{allTrue, ownKept}
+use Rattle.tlp_record.specs.Record.{requestFields, configFields, messageFields, completionFields, fieldsOf, requestIn, configIn, messageIn, completionIn, kindNumbered, kindIn, routeNumbered, routeIn, recordPacket}
+use Rattle.tlp_record_write.specs.Inner.Fit.{writable}
+use Rattle.tlp_record_write.specs.Inner.Shared.{flagsKept, routeKept, sharedFits}
+use Rattle.tlp_record_write.specs.Inner.Kinds.{allZero, requestOver, configOver, completionOver, notAddress, notMessage, memoryFits, ioFits, configFits, messageFits, completionFits}
+use Rattle.tlp_record_write.proofs.Kept.{allTrue, fieldsKept}
 use Rattle.tlp_record_write.proofs.Writable.{eqb-self, flag-kept, zeros, word-zero, writable-is}
 
 -- ---- tests in another order
@@ -135,16 +135,16 @@ module _ (s : List ℕ) where
     completion-low = rw (word-split 5 3 s 40) (low (word 5 s 40) 24 (word-lt 3 s 45 small))
 
   module _ (n : ℕ) (e : n ≡ byte s 0) where
-    request-zero : allTrue (ownKept s (requestFields n (requestIn s))) ≡ allZero (byte s 7) (word 8 s 16) (word 4 s 32) (word 8 s 40)
+    request-zero : allTrue (fieldsKept s (requestFields n (requestIn s))) ≡ allZero (byte s 7) (word 8 s 16) (word 4 s 32) (word 8 s 40)
     unfolding requestIn
     request-zero = rw (← e, eqb-self n, eqb-self (word 4 s 28), eqb-self (byte s 38), eqb-self (byte s 39), word-zero 8 40 s)
 
-    config-zero : AllBytes s → allTrue (ownKept s (configFields n (configIn s))) ≡ allZero (byte s 7) (word 8 s 16) (word 4 s 32) (word 8 s 40 % 2 ^ 48)
+    config-zero : AllBytes s → allTrue (fieldsKept s (configFields n (configIn s))) ≡ allZero (byte s 7) (word 8 s 16) (word 4 s 32) (word 8 s 40 % 2 ^ 48)
     unfolding configIn requestIn
     config-zero small =
         rw (← e, eqb-self n, eqb-self (word 4 s 28), eqb-self (byte s 38), eqb-self (byte s 39), eqb-self (byte s 40), eqb-self (byte s 41), config-low small, word-zero 6 42 s)
 
-    message-zero : (l : ℕ) → allTrue (ownKept s (messageFields n (messageIn s) l)) ≡ eqb (word 4 s 28) l && allZero (word 4 s 32) (word 8 s 40) (byte s 38) (byte s 39)
+    message-zero : (l : ℕ) → allTrue (fieldsKept s (messageFields n (messageIn s) l)) ≡ eqb (word 4 s 28) l && allZero (word 4 s 32) (word 8 s 40) (byte s 38) (byte s 39)
     unfolding messageIn
     message-zero l = rw (← e, eqb-self n, eqb-self (byte s 7), eqb-self (word 8 s 16), word-zero 8 40 s)
         (ap (λ (b : Bool). eqb (word 4 s 28) l && (eqb (word 4 s 32) 0 && b))
@@ -152,7 +152,7 @@ module _ (s : List ℕ) where
         ∙ ap (λ (b : Bool). allTrue (zeros 8 40 s) && (eqb (byte s 38) 0 && b)) (and-true (eqb (byte s 39) 0))))
 
     completion-zero : AllBytes s → (l : ℕ)
-        → allTrue (ownKept s (completionFields n (completionIn s) l))
+        → allTrue (fieldsKept s (completionFields n (completionIn s) l))
         ≡ eqb (word 4 s 28) l
         && (allZero (byte s 7) (word 8 s 16) (word 2 s 40) (word 8 s 40 % 2 ^ 24) && (leb (byte s 43) 1 && eqb (word 2 s 38) 0))
     unfolding completionIn
@@ -191,7 +191,7 @@ module _ (s : List ℕ) (len : length s ≡ 48) (each : (i : ℕ) → Fits w8 (b
 
   abbrev restAt : ℕ → Bool
   restAt n =
-      allTrue (ownKept s (ownOf (kindNumbered n s)))
+      allTrue (fieldsKept s (fieldsOf (kindNumbered n s)))
       && (not (ownBad (kindNumbered n s))
       && (not (isIoOrConfig (familyOf (typeIn (addressOf (routeIn s)) (kindNumbered n s))) && not (eqb (field (byte s 2) 2 1) 0))
       && not (routeBad (routeNumbered (byte s 5) s) (kindNumbered n s))))

@@ -11,13 +11,14 @@ use lib.Seq.{drop-cons, drop-drop}
 use borrow.Author.Tests.{eqb-true, eq-eqb}
 use Rattle.bits.specs.Choice.{pick, flag}
 use Rattle.bits.specs.Word.{byte, word, bytes}
+use Rattle.bits.specs.Same.{sameList}
+use Rattle.bits.proofs.SameLaws.{same-yes, same-self}
 use Rattle.bits.proofs.WordLaws.{AllBytes, word-bytes, word-lt, bytes-word-at}
 use Rattle.tlp.specs.declared.packet.Kind.{Kind}
 use Rattle.tlp.specs.declared.packet.Route.{Route}
 use Rattle.tlp.specs.declared.packet.Packet.{Packet}
-use Rattle.tlp_record.specs.declared.OwnFields.{OwnFields}
-use Rattle.tlp_record.specs.Record.{requestFields, configFields, messageFields, completionFields, ownOf, routeCase, routeValue, recordWith, recordOf, requestIn, configIn, messageIn, completionIn, kindNumbered, kindIn, routeNumbered, routeIn, recordPacket, isRecord, sameList}
-use Rattle.tlp_record.proofs.RecordLaws.{same-yes, same-self}
+use Rattle.tlp_record.specs.declared.KindFields.{KindFields}
+use Rattle.tlp_record.specs.Record.{requestFields, configFields, messageFields, completionFields, fieldsOf, routeCase, routeValue, recordWith, recordOf, requestIn, configIn, messageIn, completionIn, kindNumbered, kindIn, routeNumbered, routeIn, recordPacket, isRecord}
 
 -- ---- several tests
 
@@ -55,8 +56,8 @@ single-at (suc n) i s h =
     rw (drop-cons s i 0 (omega arith), ← single-at n (suc i) s (omega arith), add-suc, suc-add)
 
 -- what the kind decides on, each field beside what stands there
-abbrev pub ownKept : List ℕ → OwnFields → List Bool
-ownKept s f =
+abbrev pub fieldsKept : List ℕ → KindFields → List Bool
+fieldsKept s f =
     eqb (word 4 s 28) (f .length)
     ∷ eqb (byte s 0) (f .kind)
     ∷ eqb (byte s 7) (f .code)
@@ -108,9 +109,9 @@ module _ (s : List ℕ) (len : length s ≡ 48) (small : AllBytes s) where
             d48,
           )
 
-  module _ (p : Packet) (f : OwnFields) where
+  module _ (p : Packet) (f : KindFields) where
     abbrev kept : List Bool
-    kept = eqb (byte s 3) (flag (p .poisoned)) ∷ eqb (byte s 4) (flag (p .«has_digest»)) ∷ eqb (byte s 5) (routeCase (p .route)) ∷ eqb (word 8 s 8) (routeValue (p .route)) ∷ ownKept s f
+    kept = eqb (byte s 3) (flag (p .poisoned)) ∷ eqb (byte s 4) (flag (p .«has_digest»)) ∷ eqb (byte s 5) (routeCase (p .route)) ∷ eqb (word 8 s 8) (routeValue (p .route)) ∷ fieldsKept s f
 
     module _ (tc : p .«traffic_class» ≡ byte s 1) (at : p .attributes ≡ byte s 2) (dg : p .digest ≡ word 4 s 24) (tg : f .tag ≡ byte s 6)
         (id : f .id ≡ word 2 s 36) where
@@ -202,12 +203,12 @@ module _ (s : List ℕ) (len : length s ≡ 48) (small : AllBytes s) where
 
 -- ---- what every kind has alike
 
-pick-either : {A : Type 0} (P : A → Type 0) (b : Bool) (x y : A) → P x → P y → P (pick b x y)
-pick-either P true x y h k = h
-pick-either P false x y h k = k
+pick-holds : {A : Type 0} (P : A → Type 0) (b : Bool) (x y : A) → P x → P y → P (pick b x y)
+pick-holds P true x y h k = h
+pick-holds P false x y h k = k
 
 module _ (s : List ℕ) (small : AllBytes s) where
-  record OwnFacts (f : OwnFields) : Type 0 where
+  record FieldFacts (f : KindFields) : Type 0 where
     tag : f .tag ≡ byte s 6
     id : f .id ≡ word 2 s 36
     body : f .body < 256 ^ 8
@@ -217,47 +218,47 @@ module _ (s : List ℕ) (small : AllBytes s) where
   zero-fits : (k : ℕ) → 0 < 256 ^ k
   zero-fits k = one-le-pow k 256 (zero-lt-suc 255)
 
-  request-facts : (n : ℕ) → OwnFacts (requestFields n (requestIn s))
+  request-facts : (n : ℕ) → FieldFacts (requestFields n (requestIn s))
   unfolding requestIn
   request-facts n = record { tag = refl; id = refl; body = zero-fits 8; length = word-lt 4 s 28 small; count = zero-fits 4 }
 
-  config-facts : (n : ℕ) → OwnFacts (configFields n (configIn s))
+  config-facts : (n : ℕ) → FieldFacts (configFields n (configIn s))
   unfolding configIn requestIn
   config-facts n = record { tag = refl; id = refl; body = zero-fits 8; length = word-lt 4 s 28 small; count = zero-fits 4 }
 
-  message-facts : (n l : ℕ) → l < 256 ^ 4 → OwnFacts (messageFields n (messageIn s) l)
+  message-facts : (n l : ℕ) → l < 256 ^ 4 → FieldFacts (messageFields n (messageIn s) l)
   unfolding messageIn
   message-facts n l h = record { tag = refl; id = refl; body = word-lt 8 s 16 small; length = h; count = zero-fits 4 }
 
-  completion-facts : (n l : ℕ) → l < 256 ^ 4 → OwnFacts (completionFields n (completionIn s) l)
+  completion-facts : (n l : ℕ) → l < 256 ^ 4 → FieldFacts (completionFields n (completionIn s) l)
   unfolding completionIn
   completion-facts n l h = record { tag = refl; id = refl; body = zero-fits 8; length = h; count = word-lt 4 s 32 small }
 
-  own-facts : (n : ℕ) → OwnFacts (ownOf (kindNumbered n s))
-  own-facts n =
-      let P : Kind → Type 0 = λ k. OwnFacts (ownOf k) in
+  field-facts : (n : ℕ) → FieldFacts (fieldsOf (kindNumbered n s))
+  field-facts n =
+      let P : Kind → Type 0 = λ k. FieldFacts (fieldsOf k) in
       let w = word-lt 4 s 28 small in
-      pick-either P (eqb n 2) _ _ (request-facts 2)
-      (pick-either P (eqb n 3) _ _ (request-facts 3)
-      (pick-either P (eqb n 4) _ _ (request-facts 4)
-      (pick-either P (eqb n 5) _ _ (config-facts 5)
-      (pick-either P (eqb n 6) _ _ (config-facts 6)
-      (pick-either P (eqb n 7) _ _ (config-facts 7)
-      (pick-either P (eqb n 8) _ _ (config-facts 8)
-      (pick-either P (eqb n 9) _ _ (message-facts 9 0 (zero-fits 4))
-      (pick-either P (eqb n 10) _ _ (message-facts 10 (word 4 s 28) w)
-      (pick-either P (eqb n 11) _ _ (completion-facts 11 0 (zero-fits 4))
-      (pick-either P (eqb n 12) _ _ (completion-facts 12 (word 4 s 28) w)
+      pick-holds P (eqb n 2) _ _ (request-facts 2)
+      (pick-holds P (eqb n 3) _ _ (request-facts 3)
+      (pick-holds P (eqb n 4) _ _ (request-facts 4)
+      (pick-holds P (eqb n 5) _ _ (config-facts 5)
+      (pick-holds P (eqb n 6) _ _ (config-facts 6)
+      (pick-holds P (eqb n 7) _ _ (config-facts 7)
+      (pick-holds P (eqb n 8) _ _ (config-facts 8)
+      (pick-holds P (eqb n 9) _ _ (message-facts 9 0 (zero-fits 4))
+      (pick-holds P (eqb n 10) _ _ (message-facts 10 (word 4 s 28) w)
+      (pick-holds P (eqb n 11) _ _ (completion-facts 11 0 (zero-fits 4))
+      (pick-holds P (eqb n 12) _ _ (completion-facts 12 (word 4 s 28) w)
       (request-facts 1)))))))))))
 
   value-fits : (n : ℕ) → routeValue (routeNumbered n s) < 256 ^ 8
   value-fits n =
       let P : Route → Type 0 = λ r. routeValue r < 256 ^ 8 in
-      pick-either P (eqb n 1) _ _ (omega (arith, word-lt 2 s 14 small))
-      (pick-either P (eqb n 2) _ _ (zero-fits 8)
-      (pick-either P (eqb n 3) _ _ (zero-fits 8)
-      (pick-either P (eqb n 4) _ _ (zero-fits 8)
-      (pick-either P (eqb n 5) _ _ (zero-fits 8)
+      pick-holds P (eqb n 1) _ _ (omega (arith, word-lt 2 s 14 small))
+      (pick-holds P (eqb n 2) _ _ (zero-fits 8)
+      (pick-holds P (eqb n 3) _ _ (zero-fits 8)
+      (pick-holds P (eqb n 4) _ _ (zero-fits 8)
+      (pick-holds P (eqb n 5) _ _ (zero-fits 8)
       (word-lt 8 s 8 small)))))
 
   pub record-kept : length s ≡ 48
@@ -266,12 +267,12 @@ module _ (s : List ℕ) (small : AllBytes s) where
       && (eqb (byte s 4) (flag (eqb (byte s 4) 1))
       && (eqb (byte s 5) (routeCase (routeNumbered (byte s 5) s))
       && (eqb (word 8 s 8) (routeValue (routeNumbered (byte s 5) s))
-      && allTrue (ownKept s (ownOf (kindNumbered (byte s 0) s)))))))
+      && allTrue (fieldsKept s (fieldsOf (kindNumbered (byte s 0) s)))))))
   unfolding isRecord recordOf recordPacket kindIn routeIn
   record-kept len =
       let p = recordPacket s in
-      let f = ownOf (kindNumbered (byte s 0) s) in
-      let o = own-facts (byte s 0) in
+      let f = fieldsOf (kindNumbered (byte s 0) s) in
+      let o = field-facts (byte s 0) in
       same-bool (sameList (recordWith p f) s) (allTrue (kept s len small p f))
       (λ e. join-all (kept s len small p f) (same-kept s len small p f refl refl refl (o .tag) (o .id) (value-fits (byte s 5)) (o .body) (o .length) (o .count) (same-yes (recordWith p f) s e)))
       (λ k. ap (λ (l : List ℕ). sameList l s) (kept-same s len small p f refl refl refl (o .tag) (o .id) (split-all (kept s len small p f) k)) ∙ same-self s)

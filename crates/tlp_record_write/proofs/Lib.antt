@@ -3,5 +3,5 @@ pub mod Kept
 pub mod Writable
 pub mod Families
 pub mod Returns
-pub mod OwnLaws
+pub mod KindHeadLaws
 pub mod RecordWriteLaws

@@ -11,8 +11,8 @@ use Rattle.bits.specs.Word.{byte, word}
 use Rattle.bits.proofs.WordLaws.{word-lt}
 use Rattle.tlp_writable.specs.Given.{outside, commonBad}
 use Rattle.tlp_record.specs.Record.{recordPacket}
-use Rattle.tlp_record_write.specs.Shared.{flagsKept, routeKept, sharedFits}
-use Rattle.tlp_record_write.specs.Kinds.{allZero, requestOver, configOver, completionOver, lengthKept, notAddress, notMessage, memoryFits, ioFits, configFits, messageFits, completionFits}
+use Rattle.tlp_record_write.specs.Inner.Shared.{flagsKept, routeKept, sharedFits}
+use Rattle.tlp_record_write.specs.Inner.Kinds.{allZero, requestOver, configOver, completionOver, lengthKept, notAddress, notMessage, memoryFits, ioFits, configFits, messageFits, completionFits}
 
 pub memory-address-law : (route a : ℕ) → route ≡ 0 → Fits w64 a → not (eqb (a % 4) 0) ≡ notAddress 64 route a
 memory-address-law route a e h = rw (eq-eqb route 0 e, lt-leb (2 ^ 64) a (h .fits))

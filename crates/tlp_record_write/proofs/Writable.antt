@@ -15,11 +15,11 @@ use Rattle.bits.specs.Word.{byte, word}
 use Rattle.bits.proofs.WordLaws.{AllBytes, word-lt, word-split}
 use Rattle.tlp.specs.Rows.{first}
 use Rattle.tlp_writable.specs.Given.{commonBad, ownBad, reservedGiven, routeBad, givenRows}
-use Rattle.tlp_record.specs.Record.{ownOf, routeCase, routeValue, kindNumbered, kindIn, routeNumbered, routeIn, recordPacket, isRecord}
+use Rattle.tlp_record.specs.Record.{fieldsOf, routeCase, routeValue, kindNumbered, kindIn, routeNumbered, routeIn, recordPacket, isRecord}
 use Rattle.tlp_record.proofs.RecordFacts.{record-length, record-kind}
-use Rattle.tlp_record_write.specs.Fit.{writable}
-use Rattle.tlp_record_write.specs.Shared.{flagsKept, routeKept, sharedFits}
-use Rattle.tlp_record_write.proofs.Kept.{allTrue, ownKept, same-bool, record-kept}
+use Rattle.tlp_record_write.specs.Inner.Fit.{writable}
+use Rattle.tlp_record_write.specs.Inner.Shared.{flagsKept, routeKept, sharedFits}
+use Rattle.tlp_record_write.proofs.Kept.{allTrue, fieldsKept, same-bool, record-kept}
 
 pub eqb-self : (n : ℕ) → eqb n n ≡ true
 eqb-self n = eq-eqb n n refl
@@ -90,10 +90,10 @@ shared-yes true true o false g e = absurd (true≢false (sym e))
 shared-yes true true o true g e = refl
 
 module _ (s : List ℕ) (len : length s ≡ 48) (small : AllBytes s) where
-  record-is : isRecord s ≡ flagsKept (byte s 3) (byte s 4) && (routeKept (byte s 5) (word 8 s 8) && allTrue (ownKept s (ownOf (kindNumbered (byte s 0) s))))
+  record-is : isRecord s ≡ flagsKept (byte s 3) (byte s 4) && (routeKept (byte s 5) (word 8 s 8) && allTrue (fieldsKept s (fieldsOf (kindNumbered (byte s 0) s))))
   record-is =
       record-kept s small len
-      ∙ group (eqb (byte s 3) (flag (eqb (byte s 3) 1))) (eqb (byte s 4) (flag (eqb (byte s 4) 1))) (eqb (byte s 5) (routeCase (routeNumbered (byte s 5) s))) (eqb (word 8 s 8) (routeValue (routeNumbered (byte s 5) s))) (allTrue (ownKept s (ownOf (kindNumbered (byte s 0) s))))
+      ∙ group (eqb (byte s 3) (flag (eqb (byte s 3) 1))) (eqb (byte s 4) (flag (eqb (byte s 4) 1))) (eqb (byte s 5) (routeCase (routeNumbered (byte s 5) s))) (eqb (word 8 s 8) (routeValue (routeNumbered (byte s 5) s))) (allTrue (fieldsKept s (fieldsOf (kindNumbered (byte s 0) s))))
       ∙ rw (flag-kept (byte s 3), flag-kept (byte s 4), route-kept (byte s 5) s small)
 
   given-is : eqb (first (givenRows (recordPacket s))) 0
@@ -108,7 +108,7 @@ module _ (s : List ℕ) (len : length s ≡ 48) (small : AllBytes s) where
   -- the rest, of a record whose shared part fits
   pub writable-is : sharedFits s ≡ true
       → writable s
-      ≡ allTrue (ownKept s (ownOf (kindNumbered (byte s 0) s)))
+      ≡ allTrue (fieldsKept s (fieldsOf (kindNumbered (byte s 0) s)))
       && (not (ownBad (kindIn s)) && (not (reservedGiven (recordPacket s)) && not (routeBad (routeIn s) (kindIn s))))
   unfolding writable sharedFits
   writable-is h = ap (λ (b : Bool). b && eqb (first (givenRows (recordPacket s))) 0) record-is ∙ rw given-is (shared-yes (flagsKept (byte s 3) (byte s 4)) (routeKept (byte s 5) (word 8 s 8)) _ (not (commonBad (recordPacket s))) _ h)

@@ -1,5 +1,2 @@
-pub mod Fit
-pub mod Shared
-pub mod Kinds
-pub mod Own
 pub mod RecordWrite
+pub mod Inner

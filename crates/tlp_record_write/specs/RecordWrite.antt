@@ -1,4 +1,4 @@
--- Writing the packet that a record describes: 11, then 6 for what is no record, then as the writer.
+-- Writing the packet that a record describes: 11, then 6 for what is no record, then as the writer. A reader must believe recordAnswer and recordOut.
 use Prim.Native.Nat.{ℕ}
 use mathlib.Core.Bool.{not}
 use mathlib.Core.List.{List}
@@ -13,11 +13,11 @@ use Rattle.tlp_write.specs.Write.{writePacket, outAfter}
 use Rattle.tlp_record.specs.Record.{recordPacket, isRecord}
 
 unfoldable pub recordAnswer : Settings → List ℕ → ℕ → ℕ → WriteAnswer
-recordAnswer c s n room =
-    pick (not (settingsListed c)) (Refused 11)
-    (pick (not (isRecord s)) (Refused 6)
-    (writePacket c (recordPacket s) n room))
+recordAnswer settings fields n room =
+    pick (not (settingsListed settings)) (Refused 11)
+    (pick (not (isRecord fields)) (Refused 6)
+    (writePacket settings (recordPacket fields) n room))
 
 -- the output afterwards: the packet over its front, or as it was
 unfoldable pub recordOut : Settings → List ℕ → List ℕ → List ℕ → List ℕ
-recordOut c s payload out = outAfter (recordAnswer c s (length payload) (length out)) (bytesOf (recordPacket s) payload) out
+recordOut settings fields payload out = outAfter (recordAnswer settings fields (length payload) (length out)) (bytesOf (recordPacket fields) payload) out

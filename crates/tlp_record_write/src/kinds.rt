@@ -3,80 +3,93 @@ use crate::place::eight;
 use crate::place::four;
 use crate::place::one;
 use crate::place::two;
+use tlp_record::places::ATTRIBUTES;
+use tlp_record::places::BYTE_COUNT;
+use tlp_record::places::BYTE_COUNT_MODIFIED;
+use tlp_record::places::EXTENDED_REGISTER;
+use tlp_record::places::FIRST_ENABLES;
+use tlp_record::places::LAST_ENABLES;
+use tlp_record::places::LENGTH;
+use tlp_record::places::LOWER_ADDRESS;
+use tlp_record::places::MESSAGE_BYTES;
+use tlp_record::places::MESSAGE_CODE;
+use tlp_record::places::REGISTER;
+use tlp_record::places::ROUTE;
+use tlp_record::places::ROUTE_VALUE;
+use tlp_record::places::STATUS;
 use tlp_writable::outside_of;
 ghost use mathlib.Core.Path.{_≡_};
 ghost use mathlib.Core.Bool.{_&&_};
-ghost use Prim.Native.Nat.{_%_, _^_};
 ghost use lib.ListN.{length};
-ghost use Rattle.bits.specs.Word.{byte, word};
-ghost use Rattle.tlp_record_write.specs.Kinds.{allZero, requestOver, configOver, completionOver, lengthKept, notAddress, notMessage, memoryFits, ioFits, configFits, messageFits, completionFits};
+ghost use Rattle.tlp_record.specs.Places.{recordSize};
+ghost use Rattle.tlp_record_write.specs.Inner.Kinds.{requestZero, configZero, messageZero, completionZero, requestOver, configOver, completionOver, lengthKept, notAddress, notMessage, memoryFits, ioFits, configFits, messageFits, completionFits};
 
 // Nothing of a message or a completion, and no register.
-fn request_zero(s: &[u8]) -> bool
-    requires { ⌜ length (now s) ≡ 48 ⌝ }
-    ensures { λ r. ⌜ r ≡ allZero (byte (now (s .entry)) 7) (word 8 (now (s .entry)) 16) (word 4 (now (s .entry)) 32) (word 8 (now (s .entry)) 40) ⌝ }
+fn request_zero(record: &[u8]) -> bool
+    requires { ⌜ length (now «record») ≡ recordSize ⌝ }
+    ensures { λ r. ⌜ r ≡ requestZero (now («record» .entry)) ⌝ }
 {
-    if one(s, 7) != 0 {
+    if one(record, MESSAGE_CODE) != 0 {
         return false;
     }
-    if eight(s, 16) != 0 {
+    if eight(record, MESSAGE_BYTES) != 0 {
         return false;
     }
-    if four(s, 32) != 0 {
+    if four(record, BYTE_COUNT) != 0 {
         return false;
     }
-    eight(s, 40) == 0
+    eight(record, EXTENDED_REGISTER) == 0
 }
 
-fn config_zero(s: &[u8]) -> bool
-    requires { ⌜ length (now s) ≡ 48 ⌝ }
-    ensures { λ r. ⌜ r ≡ allZero (byte (now (s .entry)) 7) (word 8 (now (s .entry)) 16) (word 4 (now (s .entry)) 32) (word 8 (now (s .entry)) 40 % 2 ^ 48) ⌝ }
+fn config_zero(record: &[u8]) -> bool
+    requires { ⌜ length (now «record») ≡ recordSize ⌝ }
+    ensures { λ r. ⌜ r ≡ configZero (now («record» .entry)) ⌝ }
 {
-    if one(s, 7) != 0 {
+    if one(record, MESSAGE_CODE) != 0 {
         return false;
     }
-    if eight(s, 16) != 0 {
+    if eight(record, MESSAGE_BYTES) != 0 {
         return false;
     }
-    if four(s, 32) != 0 {
+    if four(record, BYTE_COUNT) != 0 {
         return false;
     }
-    eight(s, 40) % 281474976710656 == 0
+    eight(record, EXTENDED_REGISTER) % 281474976710656 == 0
 }
 
-fn message_zero(s: &[u8]) -> bool
-    requires { ⌜ length (now s) ≡ 48 ⌝ }
-    ensures { λ r. ⌜ r ≡ allZero (word 4 (now (s .entry)) 32) (word 8 (now (s .entry)) 40) (byte (now (s .entry)) 38) (byte (now (s .entry)) 39) ⌝ }
+fn message_zero(record: &[u8]) -> bool
+    requires { ⌜ length (now «record») ≡ recordSize ⌝ }
+    ensures { λ r. ⌜ r ≡ messageZero (now («record» .entry)) ⌝ }
 {
-    if four(s, 32) != 0 {
+    if four(record, BYTE_COUNT) != 0 {
         return false;
     }
-    if eight(s, 40) != 0 {
+    if eight(record, EXTENDED_REGISTER) != 0 {
         return false;
     }
-    if one(s, 38) != 0 {
+    if one(record, FIRST_ENABLES) != 0 {
         return false;
     }
-    one(s, 39) == 0
+    one(record, LAST_ENABLES) == 0
 }
 
-fn completion_zero(s: &[u8]) -> bool
-    requires { ⌜ length (now s) ≡ 48 ⌝ }
-    ensures { λ r. ⌜ r ≡ allZero (byte (now (s .entry)) 7) (word 8 (now (s .entry)) 16) (word 2 (now (s .entry)) 40) (word 8 (now (s .entry)) 40 % 2 ^ 24) ⌝ }
+fn completion_zero(record: &[u8]) -> bool
+    requires { ⌜ length (now «record») ≡ recordSize ⌝ }
+    ensures { λ r. ⌜ r ≡ completionZero (now («record» .entry)) ⌝ }
 {
-    if one(s, 7) != 0 {
+    if one(record, MESSAGE_CODE) != 0 {
         return false;
     }
-    if eight(s, 16) != 0 {
+    if eight(record, MESSAGE_BYTES) != 0 {
         return false;
     }
-    if two(s, 40) != 0 {
+    if two(record, EXTENDED_REGISTER) != 0 {
         return false;
     }
-    eight(s, 40) % 16777216 == 0
+    eight(record, EXTENDED_REGISTER) % 16777216 == 0
 }
 
-fn both(a: bool, b: bool) -> bool
+fn both_hold(a: bool, b: bool) -> bool
     ensures { λ r. ⌜ r ≡ (a && b) ⌝ }
 {
     if a {
@@ -164,63 +177,95 @@ fn not_message(route: u8, value: u64, body: u64) -> bool
     false
 }
 
-pub(crate) fn memory_fits(s: &[u8]) -> bool
-    requires { ⌜ length (now s) ≡ 48 ⌝ }
-    ensures { λ r. ⌜ r ≡ memoryFits (now (s .entry)) ⌝ }
+pub(crate) fn memory_fits(record: &[u8]) -> bool
+    requires { ⌜ length (now «record») ≡ recordSize ⌝ }
+    ensures { λ r. ⌜ r ≡ memoryFits (now («record» .entry)) ⌝ }
 {
-    if !request_zero(s) {
+    if !request_zero(record) {
         return false;
     }
-    let own = request_over(four(s, 28), one(s, 38), one(s, 39));
-    let route = not_memory_address(one(s, 5), eight(s, 8));
-    both(!own, !route)
+    let own = request_over(
+        four(record, LENGTH),
+        one(record, FIRST_ENABLES),
+        one(record, LAST_ENABLES),
+    );
+    let route = not_memory_address(one(record, ROUTE), eight(record, ROUTE_VALUE));
+    both_hold(!own, !route)
 }
 
-pub(crate) fn io_fits(s: &[u8]) -> bool
-    requires { ⌜ length (now s) ≡ 48 ⌝ }
-    ensures { λ r. ⌜ r ≡ ioFits (now (s .entry)) ⌝ }
+pub(crate) fn io_fits(record: &[u8]) -> bool
+    requires { ⌜ length (now «record») ≡ recordSize ⌝ }
+    ensures { λ r. ⌜ r ≡ ioFits (now («record» .entry)) ⌝ }
 {
-    if !request_zero(s) {
+    if !request_zero(record) {
         return false;
     }
-    let own = request_over(four(s, 28), one(s, 38), one(s, 39));
-    let route = not_io_address(one(s, 5), eight(s, 8));
-    both(!own, both(one(s, 2) / 4 % 2 == 0, !route))
+    let own = request_over(
+        four(record, LENGTH),
+        one(record, FIRST_ENABLES),
+        one(record, LAST_ENABLES),
+    );
+    let route = not_io_address(one(record, ROUTE), eight(record, ROUTE_VALUE));
+    both_hold(
+        !own,
+        both_hold(one(record, ATTRIBUTES) / 4 % 2 == 0, !route),
+    )
 }
 
-pub(crate) fn config_fits(s: &[u8]) -> bool
-    requires { ⌜ length (now s) ≡ 48 ⌝ }
-    ensures { λ r. ⌜ r ≡ configFits (now (s .entry)) ⌝ }
+pub(crate) fn config_fits(record: &[u8]) -> bool
+    requires { ⌜ length (now «record») ≡ recordSize ⌝ }
+    ensures { λ r. ⌜ r ≡ configFits (now («record» .entry)) ⌝ }
 {
-    if !config_zero(s) {
+    if !config_zero(record) {
         return false;
     }
-    let own = request_over(four(s, 28), one(s, 38), one(s, 39));
-    let over = config_over(one(s, 40), one(s, 41), own);
-    both(!over, both(one(s, 2) / 4 % 2 == 0, one(s, 5) == 1))
+    let own = request_over(
+        four(record, LENGTH),
+        one(record, FIRST_ENABLES),
+        one(record, LAST_ENABLES),
+    );
+    let over = config_over(one(record, EXTENDED_REGISTER), one(record, REGISTER), own);
+    both_hold(
+        !over,
+        both_hold(
+            one(record, ATTRIBUTES) / 4 % 2 == 0,
+            one(record, ROUTE) == 1,
+        ),
+    )
 }
 
-pub(crate) fn message_fits(has_length: bool, s: &[u8]) -> bool
-    requires { ⌜ length (now s) ≡ 48 ⌝ }
-    ensures { λ r. ⌜ r ≡ messageFits «has_length» (now (s .entry)) ⌝ }
+pub(crate) fn message_fits(has_length: bool, record: &[u8]) -> bool
+    requires { ⌜ length (now «record») ≡ recordSize ⌝ }
+    ensures { λ r. ⌜ r ≡ messageFits «has_length» (now («record» .entry)) ⌝ }
 {
-    if !message_zero(s) {
+    if !message_zero(record) {
         return false;
     }
-    let n = length_kept(has_length, four(s, 28));
-    let route = not_message(one(s, 5), eight(s, 8), eight(s, 16));
-    both(n, !route)
+    let n = length_kept(has_length, four(record, LENGTH));
+    let route = not_message(
+        one(record, ROUTE),
+        eight(record, ROUTE_VALUE),
+        eight(record, MESSAGE_BYTES),
+    );
+    both_hold(n, !route)
 }
 
-pub(crate) fn completion_fits(has_length: bool, s: &[u8]) -> bool
-    requires { ⌜ length (now s) ≡ 48 ⌝ }
-    ensures { λ r. ⌜ r ≡ completionFits «has_length» (now (s .entry)) ⌝ }
+pub(crate) fn completion_fits(has_length: bool, record: &[u8]) -> bool
+    requires { ⌜ length (now «record») ≡ recordSize ⌝ }
+    ensures { λ r. ⌜ r ≡ completionFits «has_length» (now («record» .entry)) ⌝ }
 {
-    if !completion_zero(s) {
+    if !completion_zero(record) {
         return false;
     }
-    let n = length_kept(has_length, four(s, 28));
-    let own = completion_over(one(s, 42), four(s, 32), one(s, 44));
-    let rest = both(two(s, 38) == 0, both(!own, one(s, 5) == 1));
-    both(n, both(one(s, 43) <= 1, rest))
+    let n = length_kept(has_length, four(record, LENGTH));
+    let own = completion_over(
+        one(record, STATUS),
+        four(record, BYTE_COUNT),
+        one(record, LOWER_ADDRESS),
+    );
+    let rest = both_hold(
+        two(record, FIRST_ENABLES) == 0,
+        both_hold(!own, one(record, ROUTE) == 1),
+    );
+    both_hold(n, both_hold(one(record, BYTE_COUNT_MODIFIED) <= 1, rest))
 }

@@ -1,51 +1,36 @@
 // Numbers at places of a record, the high byte first. Nothing is looked up past the end, so no place is tested.
+use bits::word::join16;
+use bits::word::join32;
+use bits::word::join64;
 ghost use mathlib.Core.Path.{_≡_};
-ghost use Prim.Native.Nat.{_+_, _*_, _≤_, _<_};
+ghost use Prim.Native.Nat.{_+_, _≤_, _<_};
 ghost use lib.ListN.{length};
 ghost use Rattle.bits.specs.Word.{byte, word};
 
-pub(crate) fn one(s: &[u8], i: usize) -> u8
-    requires { ⌜ i < length (now s) ⌝ }
-    ensures { λ r. ⌜ r ≡ byte (now (s .entry)) i ⌝ }
+pub(crate) fn one(record: &[u8], i: usize) -> u8
+    requires { ⌜ i < length (now «record») ⌝ }
+    ensures { λ r. ⌜ r ≡ byte (now («record» .entry)) i ⌝ }
 {
-    s[i]
+    record[i]
 }
 
-fn join16(a: u8, b: u8) -> u16
-    ensures { λ r. ⌜ r ≡ a * 256 + b ⌝ }
+pub(crate) fn two(record: &[u8], i: usize) -> u16
+    requires { ⌜ i + 2 ≤ length (now «record») ⌝ }
+    ensures { λ r. ⌜ r ≡ word 2 (now («record» .entry)) i ⌝ }
 {
-    (a as u16) * 256 + (b as u16)
+    join16(one(record, i), one(record, i + 1))
 }
 
-fn join32(a: u16, b: u16) -> u32
-    ensures { λ r. ⌜ r ≡ a * 65536 + b ⌝ }
+pub(crate) fn four(record: &[u8], i: usize) -> u32
+    requires { ⌜ i + 4 ≤ length (now «record») ⌝ }
+    ensures { λ r. ⌜ r ≡ word 4 (now («record» .entry)) i ⌝ }
 {
-    (a as u32) * 65536 + (b as u32)
+    join32(two(record, i), two(record, i + 2))
 }
 
-fn join64(a: u32, b: u32) -> u64
-    ensures { λ r. ⌜ r ≡ a * 4294967296 + b ⌝ }
+pub(crate) fn eight(record: &[u8], i: usize) -> u64
+    requires { ⌜ i + 8 ≤ length (now «record») ⌝ }
+    ensures { λ r. ⌜ r ≡ word 8 (now («record» .entry)) i ⌝ }
 {
-    (a as u64) * 4294967296 + (b as u64)
-}
-
-pub(crate) fn two(s: &[u8], i: usize) -> u16
-    requires { ⌜ i + 2 ≤ length (now s) ⌝ }
-    ensures { λ r. ⌜ r ≡ word 2 (now (s .entry)) i ⌝ }
-{
-    join16(one(s, i), one(s, i + 1))
-}
-
-pub(crate) fn four(s: &[u8], i: usize) -> u32
-    requires { ⌜ i + 4 ≤ length (now s) ⌝ }
-    ensures { λ r. ⌜ r ≡ word 4 (now (s .entry)) i ⌝ }
-{
-    join32(two(s, i), two(s, i + 2))
-}
-
-pub(crate) fn eight(s: &[u8], i: usize) -> u64
-    requires { ⌜ i + 8 ≤ length (now s) ⌝ }
-    ensures { λ r. ⌜ r ≡ word 8 (now (s .entry)) i ⌝ }
-{
-    join64(four(s, i), four(s, i + 4))
+    join64(four(record, i), four(record, i + 4))
 }

@@ -2,12 +2,19 @@
 use crate::place::eight;
 use crate::place::four;
 use crate::place::one;
+use tlp_record::places::ATTRIBUTES;
+use tlp_record::places::DIGEST;
+use tlp_record::places::DIGEST_PRESENT;
+use tlp_record::places::POISONED;
+use tlp_record::places::ROUTE;
+use tlp_record::places::ROUTE_VALUE;
+use tlp_record::places::TRAFFIC_CLASS;
 ghost use mathlib.Core.Path.{_≡_};
-ghost use mathlib.Core.Bool.{_&&_, _||_, not};
-ghost use lib.Dec.{eqb, leb};
+ghost use mathlib.Core.Bool.{_&&_, not};
 ghost use lib.ListN.{length};
 ghost use Rattle.bits.specs.Word.{word};
-ghost use Rattle.tlp_record_write.specs.Shared.{flagsKept, routeKept, sharedFits};
+ghost use Rattle.tlp_record.specs.Places.{recordSize, routeValuePlace, digestPlace};
+ghost use Rattle.tlp_record_write.specs.Inner.Shared.{flagsKept, routeKept, commonOver, sharedFits};
 
 fn flags_kept(poisoned: u8, digest: u8) -> bool
     ensures { λ r. ⌜ r ≡ flagsKept poisoned digest ⌝ }
@@ -18,26 +25,26 @@ fn flags_kept(poisoned: u8, digest: u8) -> bool
     false
 }
 
-fn route_kept(route: u8, s: &[u8]) -> bool
-    requires { ⌜ length (now s) ≡ 48 ⌝ }
-    ensures { λ r. ⌜ r ≡ routeKept route (word 8 (now (s .entry)) 8) ⌝ }
+fn route_kept(route: u8, record: &[u8]) -> bool
+    requires { ⌜ length (now «record») ≡ recordSize ⌝ }
+    ensures { λ r. ⌜ r ≡ routeKept route (word 8 (now («record» .entry)) routeValuePlace) ⌝ }
 {
     if route == 0 {
         return true;
     }
     if route == 1 {
-        return eight(s, 8) < 65536;
+        return eight(record, ROUTE_VALUE) < 65536;
     }
     if route <= 5 {
-        return eight(s, 8) == 0;
+        return eight(record, ROUTE_VALUE) == 0;
     }
     false
 }
 
-// "with TD clear [the digest] is 0, else the writer gives 6"
-fn common_bad(traffic_class: u8, attributes: u8, has_digest: u8, s: &[u8]) -> bool
-    requires { ⌜ length (now s) ≡ 48 ⌝ }
-    ensures { λ r. ⌜ r ≡ (leb 8 «traffic_class» || (leb 8 attributes || (not (eqb «has_digest» 1) && not (eqb (word 4 (now (s .entry)) 24) 0)))) ⌝ }
+// With TD clear the digest is 0, else the writer gives 6.
+fn common_over(traffic_class: u8, attributes: u8, has_digest: u8, record: &[u8]) -> bool
+    requires { ⌜ length (now «record») ≡ recordSize ⌝ }
+    ensures { λ r. ⌜ r ≡ commonOver «traffic_class» attributes «has_digest» (word 4 (now («record» .entry)) digestPlace) ⌝ }
 {
     if 8 <= traffic_class {
         return true;
@@ -48,7 +55,7 @@ fn common_bad(traffic_class: u8, attributes: u8, has_digest: u8, s: &[u8]) -> bo
     if has_digest == 1 {
         return false;
     }
-    four(s, 24) != 0
+    four(record, DIGEST) != 0
 }
 
 fn all_hold(a: bool, b: bool, bad: bool) -> bool
@@ -63,12 +70,17 @@ fn all_hold(a: bool, b: bool, bad: bool) -> bool
     false
 }
 
-pub(crate) fn shared_fits(s: &[u8]) -> bool
-    requires { ⌜ length (now s) ≡ 48 ⌝ }
-    ensures { λ r. ⌜ r ≡ sharedFits (now (s .entry)) ⌝ }
+pub(crate) fn shared_fits(record: &[u8]) -> bool
+    requires { ⌜ length (now «record») ≡ recordSize ⌝ }
+    ensures { λ r. ⌜ r ≡ sharedFits (now («record» .entry)) ⌝ }
 {
-    let flags = flags_kept(one(s, 3), one(s, 4));
-    let route = route_kept(one(s, 5), s);
-    let bad = common_bad(one(s, 1), one(s, 2), one(s, 4), s);
+    let flags = flags_kept(one(record, POISONED), one(record, DIGEST_PRESENT));
+    let route = route_kept(one(record, ROUTE), record);
+    let bad = common_over(
+        one(record, TRAFFIC_CLASS),
+        one(record, ATTRIBUTES),
+        one(record, DIGEST_PRESENT),
+        record,
+    );
     all_hold(flags, route, bad)
 }

@@ -22,7 +22,7 @@ use Rattle.tlp.specs.declared.packet.Kind.{Kind}
 use Rattle.tlp.specs.declared.packet.Kind.the-variants.{MemoryRead, MemoryWrite, IoRead, IoWrite, ConfigRead0, ConfigWrite0, ConfigRead1, ConfigWrite1, Message, MessageData, Completion, CompletionData}
 use Rattle.tlp.specs.declared.packet.Packet.{Packet}
 use Rattle.tlp_write.specs.Layout.{routing, routingIn, memoryAddress, ownBytes, frontBytes, headerOf}
-use Rattle.tlp_write.specs.Padded.{padded}
+use Rattle.tlp_write.specs.Inner.Padded.{padded}
 
 -- ---- byte 0
 

@@ -3,7 +3,7 @@ use Prim.Native.Nat.{ℕ, _+_, _*_, _/_, _%_, _^_, _≤_, _<_}
 use mathlib.Core.Path.{_≡_, refl, sym, ap, _∙_}
 use mathlib.Core.Bool.{Bool, true, false}
 use mathlib.Core.List.{List, [], _∷_, _++_}
-use native.Mathlib.Nat.{add-zero, div-add-mod', mod-lt, mod-eq-of-lt, div-one, zero-lt-suc}
+use native.Mathlib.Nat.{add-zero, div-add-mod', mod-lt, zero-lt-suc}
 use native.Mathlib.Omega.{arith}
 use lib.ListN.{length, take}
 use mir.Val.{Fits}
@@ -12,8 +12,8 @@ use borrow.Author.Tests.{lt-ltb, le-ltb}
 use Rattle.bits.specs.Choice.{pick, flag}
 use Rattle.bits.specs.Word.{bytes}
 use Rattle.bits.specs.Put.{put}
-use Rattle.bits.proofs.WordLaws.{bytes-low, bytes-join}
-use Rattle.bits.proofs.PutLaws.{length-put}
+use Rattle.bits.proofs.WordLaws.{bytes-low, bytes-join, bytes-pair, pair-lt}
+use Rattle.bits.proofs.PutLaws.{length-put, put-next}
 use Rattle.tlp.specs.PacketTypes.{firstByte}
 use Rattle.tlp.specs.declared.packet.Request.{Request}
 use Rattle.tlp.specs.declared.packet.ConfigRequest.{ConfigRequest}
@@ -24,31 +24,26 @@ use Rattle.tlp.specs.declared.packet.Kind.{Kind}
 use Rattle.tlp.specs.declared.packet.Kind.the-variants.{MemoryRead, MemoryWrite, IoRead, IoWrite, ConfigRead0, ConfigWrite0, ConfigRead1, ConfigWrite1, Message, MessageData, Completion, CompletionData}
 use Rattle.tlp.specs.Packets.{addressOf, idOf}
 use Rattle.tlp_write.specs.Layout.{requestBytes, memoryAddress, configBytes, messageBytes, completionBytes, ownBytes}
-use Rattle.tlp_write.specs.Padded.{padded}
-use Rattle.tlp_write.specs.Head.{wordBytes, headFront}
+use Rattle.tlp_write.specs.Inner.Padded.{padded}
+use Rattle.tlp_write.specs.Inner.Head.{wordBytes, headFront}
 use Rattle.tlp_write.specs.declared.words.Words.{Words}
 use Rattle.tlp_write.specs.declared.head.Head.{Head}
-use Rattle.tlp_write.proofs.PutLaws.{put-next}
 
 -- ---- bytes of joined numbers
 
-both : (x y u v : List ℕ) → x ≡ y → u ≡ v → x ++ u ≡ y ++ v
-both x y u v e h = rw (e, h)
+append-same : (x y u v : List ℕ) → x ≡ y → u ≡ v → x ++ u ≡ y ++ v
+append-same x y u v e h = rw (e, h)
 
-pair : (a b : ℕ) → a < 256 → b < 256 → bytes 2 (a * 256 + b) ≡ (a ∷ b ∷ [])
-pair a b h k = bytes-join 1 1 a b k ∙ rw (div-one a, div-one b, mod-eq-of-lt h, mod-eq-of-lt k)
+pub word-law : (i a b m w : ℕ) → Fits w8 a → Fits w8 b → m ≡ a * 256 + b → w ≡ i * 65536 + m → bytes 4 w ≡ bytes 2 i ++ (a ∷ b ∷ [])
+word-law i a b m w h k e f =
+    rw (f, e) (bytes-join 2 2 i (a * 256 + b) (pair-lt a b (h .fits) (k .fits)) ∙ rw (bytes-pair a b (h .fits) (k .fits)))
 
-pair-lt : (a b : ℕ) → a < 256 → b < 256 → a * 256 + b < 65536
-pair-lt a b h k = omega arith
-
-pub word-law : (i a b : ℕ) → Fits w8 a → Fits w8 b → bytes 4 (i * 65536 + (a * 256 + b)) ≡ bytes 2 i ++ (a ∷ b ∷ [])
-word-law i a b h k =
-    bytes-join 2 2 i (a * 256 + b) (pair-lt a b (h .fits) (k .fits)) ∙ rw (pair a b (h .fits) (k .fits))
-
-pub joined-law : (a b c d : ℕ) → Fits w8 a → Fits w8 b → Fits w8 c → Fits w8 d
-    → bytes 4 ((a * 256 + b) * 65536 + (c * 256 + d)) ≡ (a ∷ b ∷ c ∷ d ∷ [])
-joined-law a b c d h k l m =
-    bytes-join 2 2 (a * 256 + b) (c * 256 + d) (pair-lt c d (l .fits) (m .fits)) ∙ both _ _ _ _ (pair a b (h .fits) (k .fits)) (pair c d (l .fits) (m .fits))
+pub four-law : (a b c d m n w : ℕ) → Fits w8 a → Fits w8 b → Fits w8 c → Fits w8 d → m ≡ a * 256 + b → n ≡ c * 256 + d → w ≡ m * 65536 + n
+    → bytes 4 w ≡ (a ∷ b ∷ c ∷ d ∷ [])
+four-law a b c d m n w ha hb hc hd em en ew =
+    rw (ew, em, en)
+    (bytes-join 2 2 (a * 256 + b) (c * 256 + d) (pair-lt c d (hc .fits) (hd .fits))
+    ∙ append-same _ _ _ _ (bytes-pair a b (ha .fits) (hb .fits)) (bytes-pair c d (hc .fits) (hd .fits)))
 
 pub high-law : (a : ℕ) → bytes 8 (a % 2 ^ 32 * 2 ^ 32) ≡ padded 8 (bytes 4 a)
 high-law a =
@@ -71,18 +66,18 @@ memory-wide a h = rw (le-ltb a (2 ^ 32) h)
 module _ (v t : ℕ) where
   pub request-law : (q : Request) (xs : List ℕ) → bytes 4 v ≡ requestBytes q → bytes 8 t ≡ padded 8 xs
       → bytes 4 v ++ bytes 8 t ≡ padded 12 (requestBytes q ++ xs)
-  request-law q xs e h = both _ (requestBytes q) _ (padded 8 xs) e h
+  request-law q xs e h = append-same _ (requestBytes q) _ (padded 8 xs) e h
 
   pub config-law : (q : ConfigRequest) (target w : ℕ) → bytes 4 v ≡ requestBytes (q .request) → bytes 8 t ≡ padded 8 (bytes 4 w)
       → bytes 4 w ≡ bytes 2 target ++ ((q .«extended_register» % 16) ∷ (q .register % 64 * 4) ∷ [])
       → bytes 4 v ++ bytes 8 t ≡ padded 12 (configBytes target q)
   config-law q target w e h k =
       let third : List ℕ = bytes 2 target ++ ((q .«extended_register» % 16) ∷ (q .register % 64 * 4) ∷ []) in
-      both _ (requestBytes (q .request)) _ (padded 8 third) e (h ∙ ap (λ (l : List ℕ). padded 8 l) k)
+      append-same _ (requestBytes (q .request)) _ (padded 8 third) e (h ∙ ap (λ (l : List ℕ). padded 8 l) k)
 
   pub message-law : (m : MessageRequest) → bytes 4 v ≡ bytes 2 (m .requester) ++ (m .tag ∷ m .code ∷ [])
       → bytes 4 v ++ bytes 8 (m .body) ≡ messageBytes m
-  message-law m e = both _ _ (bytes 8 (m .body)) _ e refl
+  message-law m e = append-same _ _ (bytes 8 (m .body)) _ e refl
 
   pub completion-law : (c : CompletionHeader) (requester w f : ℕ) → f ≡ flag (c .«byte_count_modified»)
       → bytes 4 v ≡ bytes 2 (c .completer) ++ ((c .status % 8 * 32 + f * 16 + c .«byte_count» / 256 % 16) ∷ (c .«byte_count» % 256) ∷ [])
@@ -91,7 +86,7 @@ module _ (v t : ℕ) where
       → bytes 4 v ++ bytes 8 t ≡ padded 12 (completionBytes requester c)
   completion-law c requester w f g e h k =
       let third : List ℕ = bytes 2 requester ++ (c .tag ∷ (c .«lower_address» % 128) ∷ []) in
-      both _ _ _ (padded 8 third) (rw g at e) (h ∙ ap (λ (l : List ℕ). padded 8 l) k)
+      append-same _ _ _ (padded 8 third) (rw g at e) (h ∙ ap (λ (l : List ℕ). padded 8 l) k)
 
 -- by the address and the ID that the route has
 abbrev pub ownAt : ℕ → ℕ → Kind → List ℕ
@@ -174,19 +169,19 @@ module _ (wide : Bool) (out : List ℕ) (l : pick wide 16 12 ≤ length out) whe
     pub second-narrow : wide ≡ false → 8 + 4 ≤ length o1
     second-narrow h = omega (arith, same-room, rw h at l)
 
-module _ (f s t : ℕ) (wide : Bool) (out o1 o2 : List ℕ) (hs : Fits w32 s) (e1 : o1 ≡ put 0 (bytes 8 (f * 2 ^ 32 + s)) out) where
-  two-words : bytes 8 (f * 2 ^ 32 + s) ≡ bytes 4 f ++ bytes 4 s
-  two-words = bytes-join 4 4 f s (hs .fits)
+module _ (f s t x : ℕ) (wide : Bool) (out o1 o2 : List ℕ) (hs : Fits w32 s) (ex : x ≡ f * 2 ^ 32 + s) (e1 : o1 ≡ put 0 (bytes 8 x) out) where
+  two-words : bytes 8 x ≡ bytes 4 f ++ bytes 4 s
+  two-words = rw ex (bytes-join 4 4 f s (hs .fits))
 
-  after : (xs : List ℕ) → o2 ≡ put 8 xs o1 → o2 ≡ put 0 ((bytes 4 f ++ bytes 4 s) ++ xs) out
-  after xs e = e ∙ rw (e1, two-words) (put-next (bytes 4 f ++ bytes 4 s) xs out)
+  then-put : (xs : List ℕ) → o2 ≡ put 8 xs o1 → o2 ≡ put 0 ((bytes 4 f ++ bytes 4 s) ++ xs) out
+  then-put xs e = e ∙ rw (e1, two-words) (put-next (bytes 4 f ++ bytes 4 s) xs out)
 
   pub wide-put : wide ≡ true → o2 ≡ put 8 (bytes 8 t) o1 → o2 ≡ put 0 (take (pick wide 16 12) (bytes 4 f ++ (bytes 4 s ++ bytes 8 t))) out
-  wide-put h e = rw h (after (bytes 8 t) e)
+  wide-put h e = rw h (then-put (bytes 8 t) e)
 
   pub narrow-put : wide ≡ false → o2 ≡ put 8 (bytes 4 (t / 2 ^ 32)) o1
       → o2 ≡ put 0 (take (pick wide 16 12) (bytes 4 f ++ (bytes 4 s ++ bytes 8 t))) out
   narrow-put h e =
       let d : t / 2 ^ 32 * 2 ^ 32 + t % 2 ^ 32 ≡ t = div-add-mod' t (2 ^ 32) in
       let j : bytes 8 t ≡ bytes 4 (t / 2 ^ 32) ++ bytes 4 (t % 2 ^ 32) = ap (λ (n : ℕ). bytes 8 n) (sym d) ∙ bytes-join 4 4 (t / 2 ^ 32) (t % 2 ^ 32) (mod-lt t (zero-lt-suc _)) in
-      rw h (after (bytes 4 (t / 2 ^ 32)) e ∙ ap (λ (l : List ℕ). put 0 (take 12 (bytes 4 f ++ (bytes 4 s ++ l))) out) (sym j))
+      rw h (then-put (bytes 4 (t / 2 ^ 32)) e ∙ ap (λ (l : List ℕ). put 0 (take 12 (bytes 4 f ++ (bytes 4 s ++ l))) out) (sym j))

@@ -6,18 +6,16 @@ use mathlib.Core.List.{List, [], _∷_, _++_, append-assoc}
 use native.Mathlib.Omega.{arith}
 use lib.Dec.{eqb, ltb}
 use lib.ListN.{length, take, length-append}
-use mir.Val.{Fits}
-use mir.Syntax.{w32}
 use borrow.Author.Tests.{eqb-true, ltb-false, not-false, ne-eqb}
 use Rattle.bits.specs.Choice.{pick}
 use Rattle.bits.specs.Word.{bytes}
-use Rattle.bits.specs.Put.{put}
-use Rattle.bits.proofs.PutLaws.{length-put}
+use Rattle.bits.specs.Put.{put, overFront}
+use Rattle.bits.proofs.PutLaws.{length-put, put-front, put-next}
 use Rattle.byte_enables.specs.declared.Access.{Access}
 use Rattle.tlp.specs.Rows.{Row, row, first}
 use Rattle.tlp.proofs.RowLaws.{some-of, none-of}
+use Rattle.tlp.specs.Settings.{settingsListed}
 use Rattle.tlp.specs.PacketTypes.{headerDw, familyOf}
-use Rattle.tlp.proofs.Bounds.{data-le}
 use Rattle.tlp.specs.Packets.{typeOf, accessOf}
 use Rattle.tlp.specs.Sizes.{dataBytes, digestBytes}
 use Rattle.tlp.specs.Contents.{plainBad, enablesBad, pageBad, faultRows}
@@ -25,32 +23,24 @@ use Rattle.tlp.specs.declared.settings.Settings.{Settings}
 use Rattle.tlp.specs.declared.packet.Packet.{Packet}
 use Rattle.tlp.specs.declared.packet_type.PacketType.{PacketType}
 use Rattle.tlp.specs.declared.packet_type.Family.{Family}
+use Rattle.tlp_writable.specs.Given.{givenRows}
 use Rattle.tlp_write.specs.declared.WriteAnswer.{WriteAnswer}
 use Rattle.tlp_write.specs.declared.WriteAnswer.the-variants.{Written, Refused}
 use Rattle.tlp_write.specs.declared.words.Words.{Words}
+use Rattle.tlp_write.specs.declared.head.Fault.{Fault}
+use Rattle.tlp_write.specs.declared.head.Fault.the-variants.{None}
 use Rattle.tlp_write.specs.declared.head.Head.{Head}
 use Rattle.tlp_write.specs.Layout.{routingIn, ownBytes, frontBytes, headerOf, digestOf, bytesOf, sizeOf}
-use Rattle.tlp_write.specs.Write.{laterRows, earlyRows, writeAnswer, writePacket, overFront, writeOut, layAnswer, layOut}
-use Rattle.tlp_write.specs.Head.{wordBytes, headFront, headSize, headBytes, headDigest, dataSize, wholeSize, headRows, headAnswer, headOut, IsHead, withoutFault}
-use Rattle.tlp_write.specs.Padded.{padded}
-use Rattle.tlp_write.proofs.PutLaws.{put-front, put-next}
+use Rattle.tlp_write.specs.Write.{fieldRows, laterRows, writeRows, writeAnswer, writePacket, writeOut}
+use Rattle.tlp_write.specs.Inner.Padded.{padded}
+use Rattle.tlp_write.specs.Inner.Head.{wordBytes, headFront, headSize, headBytes, headDigest, dataSize, wholeSize, faultNumber, faultNumbered, judgedRows, judgedAnswer, judgedOut, headRows, headAnswer, headOut, IsHead}
+use Rattle.tlp_write.specs.Inner.Lay.{layAnswer, layOut}
 use Rattle.tlp_write.proofs.LayoutLaws.{routing-low, header-length, header-front, three-or-four}
-
-pub size-law : (p : Packet) (t : PacketType) (a : Access) (d n : ℕ) → t ≡ typeOf p → a ≡ accessOf p → d ≡ dataBytes t (a .length)
-    → n ≡ pick (eqb (headerDw t) 4) 16 12 + d + digestBytes (p .«has_digest») → n ≡ sizeOf p
-unfolding sizeOf
-size-law p t a d n e f g k = rw (g, e, f, three-or-four p) at k
 
 -- ---- sizes
 
 pub wide-law : (t : PacketType) (n : ℕ) → n ≡ headerDw t → eqb n 4 ≡ eqb (headerDw t) 4
 wide-law t n e = rw e
-
-pub held-le : (t : PacketType) (d n : ℕ) → d ≡ dataBytes t n → Fits w32 n → d ≤ 17179869180
-held-le t d n e h = omega (arith, e, data-le t n, h .fits)
-
-pub whole-law : (h : Head) (d n : ℕ) → d ≡ dataSize h → n ≡ pick (eqb (headerDw (h .«packet_type»)) 4) 16 12 + d + digestBytes (h .«has_digest») → n ≡ wholeSize h
-whole-law h d n e k = rw e at k
 
 -- ---- the packet over the output
 
@@ -127,36 +117,73 @@ answer-refused zero size z = absurd (z refl)
 answer-refused (suc n) size z = refl
 
 -- 3 and 12 are not the case where no number is given
-both-clear : (x y z : Bool) (f : ℕ) → pick x 3 (pick y 5 (pick (not (eqb f 0)) f (pick z 12 0))) ≡ 0 → (x ≡ false) × (z ≡ false)
-both-clear true y z f e = absurd (omega (arith, e))
-both-clear false true z f e = absurd (omega (arith, e))
-both-clear false false true zero e = absurd (omega (arith, e))
-both-clear false false false zero e = (refl, refl)
-both-clear false false z (suc f) e = absurd (omega (arith, rw (ne-eqb (suc f) 0 (λ q. omega arith)) at e))
+three-and-twelve : (x y z : Bool) (f : ℕ) → pick x 3 (pick y 5 (pick (not (eqb f 0)) f (pick z 12 0))) ≡ 0 → (x ≡ false) × (z ≡ false)
+three-and-twelve true y z f e = absurd (omega (arith, e))
+three-and-twelve false true z f e = absurd (omega (arith, e))
+three-and-twelve false false true zero e = absurd (omega (arith, e))
+three-and-twelve false false false zero e = (refl, refl)
+three-and-twelve false false z (suc f) e = absurd (omega (arith, rw (ne-eqb (suc f) 0 (λ q. omega arith)) at e))
 
-module _ (mps : ℕ) (h : Head) (payload out : List ℕ) (n : ℕ) (e : n ≡ first (headRows mps h (length payload) (length out))) where
-  pub refused : (n ≡ 0 → ⊥) → Refused n ≡ headAnswer mps h (length payload) (length out)
-  unfolding headAnswer
+module _ (mps : ℕ) (h : Head) (fault : ℕ) (payload out : List ℕ) (n : ℕ) (e : n ≡ first (judgedRows mps h fault (length payload) (length out))) where
+  pub refused : (n ≡ 0 → ⊥) → Refused n ≡ judgedAnswer mps h fault (length payload) (length out)
+  unfolding judgedAnswer
   refused z = rw (← e) (answer-refused n (wholeSize h) z)
 
-  pub refused-out : (n ≡ 0 → ⊥) → out ≡ headOut mps h payload out
-  unfolding headOut
+  pub refused-out : (n ≡ 0 → ⊥) → out ≡ judgedOut mps h fault payload out
+  unfolding judgedOut
   refused-out z = rw (← (refused z))
 
-  pub written : (s : ℕ) → n ≡ 0 → s ≡ wholeSize h → Written s ≡ headAnswer mps h (length payload) (length out)
-  unfolding headAnswer
-  written s z k = rw (← e, z, k)
+  pub written : (size : ℕ) → n ≡ 0 → size ≡ wholeSize h → Written size ≡ judgedAnswer mps h fault (length payload) (length out)
+  unfolding judgedAnswer
+  written size z k = rw (← e, z, k)
 
-  pub written-out : (last : List ℕ) → n ≡ 0 → last ≡ overFront (headBytes h ++ (payload ++ headDigest h)) out → last ≡ headOut mps h payload out
-  unfolding headOut
+  pub written-out : (last : List ℕ) → n ≡ 0 → last ≡ overFront (headBytes h ++ (payload ++ headDigest h)) out → last ≡ judgedOut mps h fault payload out
+  unfolding judgedOut
   written-out last z k = rw (← (written (wholeSize h) z refl)) k
 
   pub written-room : n ≡ 0 → length (headBytes h ++ (payload ++ headDigest h)) ≤ length out
   unfolding first
   written-room z =
-      let (d, r) = both-clear (not (eqb (length payload) (dataSize h))) (ltb mps (dataSize h)) (ltb (length out) (wholeSize h)) (h .fault) (sym e ∙ z) in
+      let (d, r) = three-and-twelve (not (eqb (length payload) (dataSize h))) (ltb mps (dataSize h)) (ltb (length out) (wholeSize h)) fault (sym e ∙ z) in
       let m = eqb-true (length payload) (dataSize h) (not-false (eqb (length payload) (dataSize h)) d) in
       omega (arith, m, ltb-false (length out) (wholeSize h) r, whole-length h payload)
+
+-- ---- any head
+
+pub fault-key : (n m : ℕ) (f : Fault) → n ≡ m → f ≡ faultNumbered m → f ≡ faultNumbered n
+fault-key n m f e q = rw e q
+
+pub fault-rest : (n : ℕ) → (n ≡ 6 → ⊥) → (n ≡ 7 → ⊥) → (n ≡ 8 → ⊥) → None ≡ faultNumbered n
+fault-rest n h6 h7 h8 = rw (ne-eqb n 6 h6, ne-eqb n 7 h7, ne-eqb n 8 h8)
+
+-- numbers of the rows 6 to 8 are kept
+pub fault-kept : (a b c : Bool) → faultNumber (faultNumbered (pick a 6 (pick b 7 (pick c 8 0)))) ≡ pick a 6 (pick b 7 (pick c 8 0))
+fault-kept true b c = refl
+fault-kept false true c = refl
+fault-kept false false true = refl
+fault-kept false false false = refl
+
+module _ (c : Settings) (h : Head) (l : Bool) (el : l ≡ settingsListed c) where
+  module _ (u : not l ≡ true) where
+    pub unlisted : (n room : ℕ) → Refused 11 ≡ headAnswer c h n room
+    unfolding headAnswer first
+    unlisted n room = rw (← el, u)
+
+    pub unlisted-out : (payload out : List ℕ) → out ≡ headOut c h payload out
+    unfolding headOut
+    unlisted-out payload out = rw (← unlisted (length payload) (length out))
+
+  module _ (u : not l ≡ false) (fault : ℕ) (ef : fault ≡ faultNumber (h .fault)) where
+    judged-same : (n room : ℕ) → judgedAnswer (c .mps) h fault n room ≡ headAnswer c h n room
+    unfolding judgedAnswer headAnswer first
+    judged-same n room = rw (ef, ← el, u)
+
+    pub listed : (n room : ℕ) (x : WriteAnswer) → x ≡ judgedAnswer (c .mps) h fault n room → x ≡ headAnswer c h n room
+    listed n room x q = q ∙ judged-same n room
+
+    pub listed-out : (payload out last : List ℕ) → last ≡ judgedOut (c .mps) h fault payload out → last ≡ headOut c h payload out
+    unfolding judgedOut headOut
+    listed-out payload out last q = q ∙ rw (judged-same (length payload) (length out))
 
 -- ---- the head of a packet
 
@@ -167,13 +194,13 @@ fault-first false true c m = refl
 fault-first false false true m = refl
 fault-first false false false m = refl
 
-pub head-law : (p : Packet) (t : PacketType) (a : Access) (f : Family) (r m : ℕ) (w : Words) → t ≡ typeOf p → a ≡ accessOf p → f ≡ familyOf t
-    → r ≡ routingIn (p .route) (p .kind) → m ≡ first (faultRows f a (p .«traffic_class») (p .attributes) 0)
+pub head-law : (p : Packet) (t : PacketType) (a : Access) (f : Family) (r m : ℕ) (g : Fault) (w : Words) → t ≡ typeOf p → a ≡ accessOf p → f ≡ familyOf t
+    → r ≡ routingIn (p .route) (p .kind) → m ≡ first (faultRows f a (p .«traffic_class») (p .attributes) 0) → g ≡ faultNumbered m
     → wordBytes w ≡ padded 12 (ownBytes (p .route) (p .kind))
     → IsHead (record {
       «packet_type» = t;
       routing = r;
-      fault = m;
+      fault = g;
       words = w;
       «traffic_class» = p .«traffic_class»;
       attributes = p .attributes;
@@ -182,22 +209,25 @@ pub head-law : (p : Packet) (t : PacketType) (a : Access) (f : Family) (r m : �
       digest = p .digest;
       length = a .length;
     }) p
-head-law p t a f r m w et ea ef er em ew = record {
-  type-is = et;
-  routing-is = er;
-  fault-is = em ∙ rw (ea, ef, et);
-  words-are = ew;
-  class-is = refl;
-  attributes-are = refl;
-  poisoned-is = refl;
-  digest-told = refl;
-  digest-is = refl;
-  length-is = rw ea;
-}
+unfolding first
+head-law p t a f r m g w et ea ef er em eg ew =
+    let k : m ≡ first (faultRows (familyOf (typeOf p)) (accessOf p) (p .«traffic_class») (p .attributes) 0) = em ∙ rw (ea, ef, et) in
+    record {
+      type-is = et;
+      routing-is = er;
+      fault-is = rw (eg, k) (fault-kept (plainBad (familyOf (typeOf p)) (accessOf p) (p .«traffic_class») (p .attributes) 0) (enablesBad (familyOf (typeOf p)) (accessOf p)) (pageBad (familyOf (typeOf p)) (accessOf p)));
+      words-are = ew;
+      class-is = refl;
+      attributes-are = refl;
+      poisoned-is = refl;
+      digest-told = refl;
+      digest-is = refl;
+      length-is = rw ea;
+    }
 
 -- the rows by their numbers: data, fault, whole size
 abbrev numbersFirst : ℕ → ℕ → ℕ → ℕ → ℕ → ℕ → ℕ
-numbersFirst mps n room d f s = pick (not (eqb n d)) 3 (pick (ltb mps d) 5 (pick (not (eqb f 0)) f (pick (ltb room s) 12 0)))
+numbersFirst mps n room held fault size = pick (not (eqb n held)) 3 (pick (ltb mps held) 5 (pick (not (eqb fault 0)) fault (pick (ltb room size) 12 0)))
 
 module _ (h : Head) (p : Packet) (i : IsHead h p) where
   front-same : headFront h ≡ frontBytes p
@@ -225,52 +255,72 @@ module _ (h : Head) (p : Packet) (i : IsHead h p) where
   data-same : dataSize h ≡ dataBytes (typeOf p) (accessOf p .length)
   data-same = rw (i .type-is, i .length-is)
 
-  rows-same : (c : Settings) (n room : ℕ) → first (headRows (c .mps) h n room) ≡ first (laterRows c p n room)
+  rows-same : (c : Settings) (n room : ℕ) → first (headRows c h n room) ≡ first (row 11 (not (settingsListed c)) ∷ laterRows c p n room)
   unfolding first
   rows-same c n room =
       let f = familyOf (typeOf p) in
       let a = accessOf p in
       let d = dataBytes (typeOf p) (a .length) in
-      ap (λ (x : ℕ). numbersFirst (c .mps) n room x (h .fault) (wholeSize h)) data-same
+      ap (λ (m : ℕ). pick (not (settingsListed c)) 11 m)
+      (ap (λ (x : ℕ). numbersFirst (c .mps) n room x (faultNumber (h .fault)) (wholeSize h)) data-same
       ∙ ap (λ (x : ℕ). numbersFirst (c .mps) n room d x (wholeSize h)) (i .fault-is)
       ∙ ap (λ (x : ℕ). numbersFirst (c .mps) n room d (first (faultRows f a (p .«traffic_class») (p .attributes) 0)) x) whole-same
       ∙ ap (λ (m : ℕ). pick (not (eqb n d)) 3 (pick (ltb (c .mps) d) 5 m))
-      (fault-first (plainBad f a (p .«traffic_class») (p .attributes) 0) (enablesBad f a) (pageBad f a) (pick (ltb room (sizeOf p)) 12 0))
+      (fault-first (plainBad f a (p .«traffic_class») (p .attributes) 0) (enablesBad f a) (pageBad f a) (pick (ltb room (sizeOf p)) 12 0)))
 
-  -- without the fault it is laid as it is
-  lay-same : (mps n room : ℕ) → headAnswer mps (withoutFault h) n room ≡ layAnswer mps p n room
-  unfolding headAnswer layAnswer first
+  -- without a fault it is laid as it is
+  lay-same : (mps n room : ℕ) → judgedAnswer mps h 0 n room ≡ layAnswer mps p n room
+  unfolding judgedAnswer layAnswer first
   lay-same mps n room = rw (whole-same, data-same)
 
-  pub lay-answer : (g : Head) (mps n room : ℕ) (x : WriteAnswer) → g ≡ withoutFault h → x ≡ headAnswer mps g n room → x ≡ layAnswer mps p n room
-  lay-answer g mps n room x e q = rw e at q ∙ lay-same mps n room
+  pub lay-answer : (mps n room : ℕ) (x : WriteAnswer) → x ≡ judgedAnswer mps h 0 n room → x ≡ layAnswer mps p n room
+  lay-answer mps n room x q = q ∙ lay-same mps n room
 
-  pub lay-out : (g : Head) (mps : ℕ) (payload out last : List ℕ) → g ≡ withoutFault h → last ≡ headOut mps g payload out → last ≡ layOut mps p payload out
-  unfolding headOut layOut bytesOf
-  lay-out g mps payload out last e q = rw e at q ∙ rw (lay-same mps (length payload) (length out), bytes-same, digest-same)
+  pub lay-out : (mps : ℕ) (payload out last : List ℕ) → last ≡ judgedOut mps h 0 payload out → last ≡ layOut mps p payload out
+  unfolding judgedOut layOut bytesOf
+  lay-out mps payload out last q = q ∙ rw (lay-same mps (length payload) (length out), bytes-same, digest-same)
 
-  -- where no early row holds, what is answered and written is the packet's
-  module _ (c : Settings) (n : ℕ) (e : n ≡ first (earlyRows c p)) (z : n ≡ 0) where
-    answer-same : (k room : ℕ) → headAnswer (c .mps) h k room ≡ writePacket c p k room
+  -- where no row of its fields holds, what is answered and written of the head is the packet's
+  module _ (c : Settings) (z : 0 ≡ first (givenRows p)) where
+    numbers-same : (n room : ℕ) → first (row 11 (not (settingsListed c)) ∷ laterRows c p n room) ≡ first (writeRows c p n room)
+    unfolding first
+    numbers-same n room =
+        ap (λ (m : ℕ). pick (not (settingsListed c)) 11 m) (none-of (givenRows p) (laterRows c p n room) 0 (first (laterRows c p n room)) refl z refl refl)
+
+    answer-same : (n room : ℕ) → headAnswer c h n room ≡ writePacket c p n room
     unfolding headAnswer writePacket
-    answer-same k room =
-        rw (rows-same c k room, whole-same)
-        (ap (λ (m : ℕ). writeAnswer m (sizeOf p)) (none-of (earlyRows c p) (laterRows c p k room) n (first (laterRows c p k room)) refl e z refl))
+    answer-same n room = rw (rows-same c n room, whole-same, numbers-same n room)
 
-    pub head-answer : (k room : ℕ) (x : WriteAnswer) → x ≡ headAnswer (c .mps) h k room → x ≡ writePacket c p k room
-    head-answer k room x q = q ∙ answer-same k room
+    pub head-answer : (n room : ℕ) (x : WriteAnswer) → x ≡ headAnswer c h n room → x ≡ writePacket c p n room
+    head-answer n room x q = q ∙ answer-same n room
 
-    pub head-out : (payload out last : List ℕ) → last ≡ headOut (c .mps) h payload out → last ≡ writeOut c p payload out
+    pub head-out : (payload out last : List ℕ) → last ≡ headOut c h payload out → last ≡ writeOut c p payload out
     unfolding headOut writeOut bytesOf
     head-out payload out last q = q ∙ rw (answer-same (length payload) (length out), bytes-same, digest-same)
 
--- ---- with the early rows
+-- ---- with the rows of the settings' and the packet's fields
 
-module _ (c : Settings) (p : Packet) (n : ℕ) (e : n ≡ first (earlyRows c p)) where
-  pub early-refused : (k room : ℕ) → (n ≡ 0 → ⊥) → Refused n ≡ writePacket c p k room
+module _ (c : Settings) (p : Packet) (n : ℕ) (e : n ≡ first (fieldRows c p)) where
+  pub field-refused : (k room : ℕ) → (n ≡ 0 → ⊥) → Refused n ≡ writePacket c p k room
   unfolding writePacket
-  early-refused k room z = rw (← some-of (earlyRows c p) (laterRows c p k room) n e z) (answer-refused n (sizeOf p) z)
+  field-refused k room z = rw (← some-of (fieldRows c p) (laterRows c p k room) n e z) (answer-refused n (sizeOf p) z)
 
-  pub early-out : (payload out : List ℕ) → (n ≡ 0 → ⊥) → out ≡ writeOut c p payload out
+  pub field-out : (payload out : List ℕ) → (n ≡ 0 → ⊥) → out ≡ writeOut c p payload out
   unfolding writeOut
-  early-out payload out z = rw (← early-refused (length payload) (length out) z)
+  field-out payload out z = rw (← field-refused (length payload) (length out) z)
+
+  module _ (z : n ≡ 0) where
+    none-hold : (settingsListed c ≡ true) × (0 ≡ first (givenRows p))
+    unfolding first
+    none-hold = by (settingsListed c) (sym z ∙ e)
+      where
+        by : (b : Bool) → 0 ≡ pick (not b) 11 (first (givenRows p)) → (b ≡ true) × (0 ≡ first (givenRows p))
+        by true q = (refl, q)
+        by false q = absurd (omega (arith, q))
+
+    module _ (h : Head) (i : IsHead h p) (fault : ℕ) (f : fault ≡ faultNumber (h .fault)) where
+      pub write-answer : (k room : ℕ) (x : WriteAnswer) → x ≡ judgedAnswer (c .mps) h fault k room → x ≡ writePacket c p k room
+      write-answer k room x q = head-answer h p i c (none-hold .1) k room x (listed c h true (sym (none-hold .0)) refl fault f k room x q)
+
+      pub write-out : (payload out last : List ℕ) → last ≡ judgedOut (c .mps) h fault payload out → last ≡ writeOut c p payload out
+      write-out payload out last q = head-out h p i c (none-hold .1) payload out last (listed-out c h true (sym (none-hold .0)) refl fault f payload out last q)

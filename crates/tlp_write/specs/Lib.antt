@@ -1,4 +1,3 @@
 pub mod Layout
-pub mod Head
-pub mod Padded
 pub mod Write
+pub mod Inner

@@ -2,6 +2,8 @@
 use crate::words::Words;
 use crate::words::own_words;
 use bits::choice::flag_of;
+use bits::word::join16;
+use bits::word::join32;
 use tlp::content::fault_of;
 use tlp::packet::Implicit;
 use tlp::packet::Kind;
@@ -16,14 +18,21 @@ ghost use mathlib.Core.Path.{_≡_};
 ghost use mathlib.Core.List.{[], _∷_};
 ghost use Rattle.bits.specs.Word.{bytes};
 ghost use Rattle.tlp_write.specs.Layout.{routing, routingIn};
-ghost use Rattle.tlp_write.specs.Head.{IsHead, headFront, withoutFault};
+ghost use Rattle.tlp_write.specs.Inner.Head.{faultNumber, faultNumbered, IsHead, headFront};
+
+// The first of the rows 6 to 8 that holds, if one does: a head can hand on no other number.
+pub enum Fault {
+    None,
+    NotPlain,
+    Enables,
+    Page,
+}
 
 pub struct Head {
     pub packet_type: PacketType,
     // What byte 0 has beside the type: a message's routing.
     pub routing: u8,
-    // The first of the rows 6 to 8 that holds; 0 where none does.
-    pub fault: u32,
+    pub fault: Fault,
     pub words: Words,
     pub traffic_class: u8,
     pub attributes: u8,
@@ -31,6 +40,29 @@ pub struct Head {
     pub has_digest: bool,
     pub digest: u32,
     pub length: u32,
+}
+
+// The fault by its number; any other number is none.
+pub fn fault_numbered(n: u32) -> Fault
+    ensures { λ f. ⌜ f ≡ faultNumbered n ⌝ }
+{
+    match n {
+        6 => Fault::NotPlain,
+        7 => Fault::Enables,
+        8 => Fault::Page,
+        _ => Fault::None,
+    }
+}
+
+pub(crate) fn fault_number(f: Fault) -> u32
+    ensures { λ n. ⌜ n ≡ faultNumber f ⌝ }
+{
+    match f {
+        Fault::None => 0,
+        Fault::NotPlain => 6,
+        Fault::Enables => 7,
+        Fault::Page => 8,
+    }
 }
 
 fn implicit_routing(w: Implicit) -> u8
@@ -86,10 +118,11 @@ pub(crate) fn head_of(p: Packet) -> Head
     let a = access_of(p);
     let route = p.route;
     let kind = p.kind;
+    let fault = fault_of(family_of(t), a, p.traffic_class, p.attributes, 0);
     Head {
         packet_type: t,
         routing: routing_in(route, kind),
-        fault: fault_of(family_of(t), a, p.traffic_class, p.attributes, 0),
+        fault: fault_numbered(fault),
         words: own_words(route, kind),
         traffic_class: p.traffic_class,
         attributes: p.attributes,
@@ -100,29 +133,10 @@ pub(crate) fn head_of(p: Packet) -> Head
     }
 }
 
-pub(crate) fn without_fault(h: Head) -> Head
-    ensures { λ r. ⌜ r ≡ withoutFault h ⌝ }
-{
-    let t = h.packet_type;
-    let w = h.words;
-    Head {
-        packet_type: t,
-        routing: h.routing,
-        fault: 0,
-        words: w,
-        traffic_class: h.traffic_class,
-        attributes: h.attributes,
-        poisoned: h.poisoned,
-        has_digest: h.has_digest,
-        digest: h.digest,
-        length: h.length,
-    }
-}
-
-fn joined(a: u8, b: u8, c: u8, d: u8) -> u32
+fn word_of_bytes(a: u8, b: u8, c: u8, d: u8) -> u32
     ensures { λ r. ⌜ bytes 4 r ≡ (a ∷ b ∷ c ∷ d ∷ []) ⌝ }
 {
-    ((a as u32) * 256 + (b as u32)) * 65536 + ((c as u32) * 256 + (d as u32))
+    join32(join16(a, b), join16(c, d))
 }
 
 // Bytes 0 to 3.
@@ -133,7 +147,7 @@ pub(crate) fn front_word(h: Head) -> u32
     let b0 = first_byte(t) + h.routing % 8;
     let high = (h.length / 256 % 4) as u8;
     let flags = flag_of(h.has_digest) * 128 + flag_of(h.poisoned) * 64;
-    joined(
+    word_of_bytes(
         b0,
         h.traffic_class % 8 * 16 + h.attributes / 4 % 2 * 4,
         flags + h.attributes % 4 * 16 + high,

@@ -4,12 +4,10 @@ mod put;
 pub mod words;
 
 use crate::head::Head;
+use crate::head::fault_number;
 use crate::head::front_word;
 use crate::head::head_of;
-use crate::head::without_fault;
 use tlp::packet::Packet;
-use tlp::packet::access_of;
-use tlp::packet::type_of;
 use tlp::packet_type::PacketType;
 use tlp::packet_type::header_dw;
 use tlp::settings::Settings;
@@ -23,13 +21,13 @@ ghost use Prim.Native.Nat.{_+_, _≤_};
 ghost use lib.Dec.{eqb};
 ghost use lib.ListN.{length};
 ghost use Rattle.bits.specs.Choice.{pick};
-ghost use Rattle.bits.specs.Put.{put};
+ghost use Rattle.bits.specs.Put.{put, overFront};
 ghost use Rattle.tlp.specs.Rows.{first};
 ghost use Rattle.tlp.specs.PacketTypes.{headerDw};
 ghost use Rattle.tlp.specs.Sizes.{dataBytes, digestBytes};
-ghost use Rattle.tlp_write.specs.Layout.{sizeOf};
-ghost use Rattle.tlp_write.specs.Head.{headBytes, headDigest, dataSize, wholeSize, headRows, headAnswer, headOut};
-ghost use Rattle.tlp_write.specs.Write.{earlyRows, layAnswer, layOut, writePacket, writeOut, overFront};
+ghost use Rattle.tlp_write.specs.Write.{fieldRows, writePacket, writeOut};
+ghost use Rattle.tlp_write.specs.Inner.Head.{headBytes, headDigest, wholeSize, judgedRows, judgedAnswer, judgedOut, headAnswer, headOut};
+ghost use Rattle.tlp_write.specs.Inner.Lay.{layAnswer, layOut};
 
 pub enum WriteAnswer {
     Written(usize),
@@ -51,26 +49,16 @@ fn head_size(t: PacketType) -> usize
     12
 }
 
-// Header, data of held bytes and digest.
-fn whole_size(t: PacketType, held: usize, digest: bool) -> usize
-    requires { ⌜ held ≤ 17179869180 ⌝ }
-    ensures { λ r. ⌜ r ≡ pick (eqb (headerDw t) 4) 16 12 + held + digestBytes digest ⌝ }
+// Header, data and digest.
+fn whole_size(t: PacketType, length: u32, digest: bool) -> usize
+    ensures { λ r. ⌜ r ≡ pick (eqb (headerDw t) 4) 16 12 + dataBytes t length + digestBytes digest ⌝ }
 {
-    head_size(t) + held + digest_bytes(digest)
+    head_size(t) + data_bytes(t, length) + digest_bytes(digest)
 }
 
-// The size of the packet.
-pub fn size_of(p: Packet) -> usize
-    ensures { λ r. ⌜ r ≡ sizeOf p ⌝ }
-{
-    let t = type_of(p);
-    let a = access_of(p);
-    whole_size(t, data_bytes(t, a.length), p.has_digest)
-}
-
-// The first that holds of the rows 11 and, for what is given, 6; 0 where none does.
-fn early_number(settings: Settings, p: Packet) -> u32
-    ensures { λ r. ⌜ r ≡ first (earlyRows settings p) ⌝ }
+// The first that holds of the rows 11 and, for the packet's fields, 6; 0 where none does.
+fn field_number(settings: Settings, p: Packet) -> u32
+    ensures { λ r. ⌜ r ≡ first (fieldRows settings p) ⌝ }
 {
     if !settings_listed(settings) {
         return 11;
@@ -79,19 +67,20 @@ fn early_number(settings: Settings, p: Packet) -> u32
 }
 
 // The first that holds of the rows 3, 5, the fault and 12, for a payload of n bytes; 0 where none does.
-fn head_number(mps: u32, h: Head, held: usize, size: usize, n: usize, room: usize) -> u32
-    requires { ⌜ held ≡ dataSize h ⌝ }
+fn judged_number(mps: u32, h: Head, fault: u32, size: usize, n: usize, room: usize) -> u32
     requires { ⌜ size ≡ wholeSize h ⌝ }
-    ensures { λ r. ⌜ r ≡ first (headRows mps h n room) ⌝ }
+    ensures { λ r. ⌜ r ≡ first (judgedRows mps h fault n room) ⌝ }
 {
+    let t = h.packet_type;
+    let held = data_bytes(t, h.length);
     if n != held {
         return 3;
     }
     if (mps as usize) < held {
         return 5;
     }
-    if h.fault != 0 {
-        return h.fault;
+    if fault != 0 {
+        return fault;
     }
     if room < size {
         return 12;
@@ -119,15 +108,14 @@ fn put_packet(h: Head, payload: &[u8], out: &mut [u8])
     put::put_digest(h.has_digest, h.digest, n, out);
 }
 
-// The packet that a head stands for, over the front of the output; the rows 11 and, for what is given, 6 are not looked at.
-pub fn write_head(mps: u32, h: Head, payload: &[u8], out: &mut [u8]) -> WriteAnswer
-    ensures { λ r. ⌜ r ≡ headAnswer mps h (length (now (payload .entry))) (length (now (out .entry))) ⌝ }
-    ensures { λ _. ⌜ now (out .exit) ≡ headOut mps h (now (payload .entry)) (now (out .entry)) ⌝ }
+// The packet of a head, whose settings are judged and whose first of the rows 6 to 8 is fault.
+fn write_judged(mps: u32, h: Head, fault: u32, payload: &[u8], out: &mut [u8]) -> WriteAnswer
+    ensures { λ r. ⌜ r ≡ judgedAnswer mps h fault (length (now (payload .entry))) (length (now (out .entry))) ⌝ }
+    ensures { λ _. ⌜ now (out .exit) ≡ judgedOut mps h fault (now (payload .entry)) (now (out .entry)) ⌝ }
 {
     let t = h.packet_type;
-    let held = data_bytes(t, h.length);
-    let size = whole_size(t, held, h.has_digest);
-    let n = head_number(mps, h, held, size, payload.len(), out.len());
+    let size = whole_size(t, h.length, h.has_digest);
+    let n = judged_number(mps, h, fault, size, payload.len(), out.len());
     if n != 0 {
         return WriteAnswer::Refused(n);
     }
@@ -135,12 +123,24 @@ pub fn write_head(mps: u32, h: Head, payload: &[u8], out: &mut [u8]) -> WriteAns
     WriteAnswer::Written(size)
 }
 
+// The packet that a head stands for, over the front of the output, for who knows the first of its rows 6 to 8.
+pub fn write_head(settings: Settings, h: Head, payload: &[u8], out: &mut [u8]) -> WriteAnswer
+    ensures { λ r. ⌜ r ≡ headAnswer settings h (length (now (payload .entry))) (length (now (out .entry))) ⌝ }
+    ensures { λ _. ⌜ now (out .exit) ≡ headOut settings h (now (payload .entry)) (now (out .entry)) ⌝ }
+{
+    if !settings_listed(settings) {
+        return WriteAnswer::Refused(11);
+    }
+    let fault = h.fault;
+    write_judged(settings.mps, h, fault_number(fault), payload, out)
+}
+
 // The packet over the front of the output, for who knows that no row of its fields holds: of the rows 3, 5 and 12 alone are looked at.
 pub fn lay_packet(mps: u32, p: Packet, payload: &[u8], out: &mut [u8]) -> WriteAnswer
     ensures { λ r. ⌜ r ≡ layAnswer mps p (length (now (payload .entry))) (length (now (out .entry))) ⌝ }
     ensures { λ _. ⌜ now (out .exit) ≡ layOut mps p (now (payload .entry)) (now (out .entry)) ⌝ }
 {
-    write_head(mps, without_fault(head_of(p)), payload, out)
+    write_judged(mps, head_of(p), 0, payload, out)
 }
 
 // The packet over the front of the output, or the first number that is given, with the output as it was.
@@ -148,9 +148,11 @@ pub fn write(settings: Settings, p: Packet, payload: &[u8], out: &mut [u8]) -> W
     ensures { λ r. ⌜ r ≡ writePacket settings p (length (now (payload .entry))) (length (now (out .entry))) ⌝ }
     ensures { λ _. ⌜ now (out .exit) ≡ writeOut settings p (now (payload .entry)) (now (out .entry)) ⌝ }
 {
-    let early = early_number(settings, p);
-    if early != 0 {
-        return WriteAnswer::Refused(early);
+    let n = field_number(settings, p);
+    if n != 0 {
+        return WriteAnswer::Refused(n);
     }
-    write_head(settings.mps, head_of(p), payload, out)
+    let h = head_of(p);
+    let fault = h.fault;
+    write_judged(settings.mps, h, fault_number(fault), payload, out)
 }

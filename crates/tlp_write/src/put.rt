@@ -2,6 +2,7 @@
 use crate::words::Words;
 use bits::word::bytes32;
 use bits::word::bytes64;
+use bits::word::join64;
 ghost use mathlib.Core.Path.{_≡_};
 ghost use mathlib.Core.List.{[], _++_};
 ghost use Prim.Native.Nat.{_+_, _≤_};
@@ -9,7 +10,7 @@ ghost use lib.ListN.{length, take};
 ghost use Rattle.bits.specs.Choice.{pick};
 ghost use Rattle.bits.specs.Put.{put};
 ghost use Rattle.bits.specs.Word.{bytes};
-ghost use Rattle.tlp_write.specs.Head.{wordBytes};
+ghost use Rattle.tlp_write.specs.Inner.Head.{wordBytes};
 
 // Lays src over out from index at on, and returns the index after it.
 pub(crate) fn put_at(at: usize, src: &[u8], out: &mut [u8]) -> usize
@@ -41,7 +42,7 @@ pub(crate) fn put_words(front: u32, w: Words, wide: bool, out: &mut [u8]) -> usi
     requires { ⌜ pick wide 16 12 ≤ length (now out) ⌝ }
     ensures { λ r. ⌜ (r ≡ pick wide 16 12) × (now (out .exit) ≡ put 0 (take (pick wide 16 12) (bytes 4 front ++ wordBytes w)) (now (out .entry))) ⌝ }
 {
-    put_eight(0, (front as u64) * 4294967296 + w.second as u64, out);
+    put_eight(0, join64(front, w.second), out);
     if wide {
         put_eight(8, w.tail, out);
         return 16;

@@ -1,5 +1,7 @@
 // A header from byte 4 on, as two numbers: what is one number is stored at once.
 use bits::choice::flag_of;
+use bits::word::join16;
+use bits::word::join32;
 use tlp::packet::CompletionHeader;
 use tlp::packet::ConfigRequest;
 use tlp::packet::Kind;
@@ -12,8 +14,8 @@ ghost use mathlib.Core.Path.{_≡_};
 ghost use mathlib.Core.List.{[], _∷_, _++_};
 ghost use Rattle.bits.specs.Word.{bytes};
 ghost use Rattle.tlp_write.specs.Layout.{requestBytes, memoryAddress, configBytes, messageBytes, completionBytes, ownBytes};
-ghost use Rattle.tlp_write.specs.Padded.{padded};
-ghost use Rattle.tlp_write.specs.Head.{wordBytes};
+ghost use Rattle.tlp_write.specs.Inner.Padded.{padded};
+ghost use Rattle.tlp_write.specs.Inner.Head.{wordBytes};
 
 // Bytes 4 to 7, and bytes 8 to 15; a header of three doublewords ends after the high half of these, and the low half is 0.
 pub struct Words {
@@ -24,7 +26,7 @@ pub struct Words {
 fn word_of(id: u16, a: u8, b: u8) -> u32
     ensures { λ r. ⌜ bytes 4 r ≡ bytes 2 id ++ (a ∷ b ∷ []) ⌝ }
 {
-    (id as u32) * 65536 + ((a as u32) * 256 + (b as u32))
+    join32(id, join16(a, b))
 }
 
 // Four bytes over four zeros.

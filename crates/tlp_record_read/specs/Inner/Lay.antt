@@ -4,12 +4,12 @@ use mathlib.Core.List.{List, [], _∷_, _++_}
 use lib.ListN.{length}
 use Rattle.bits.specs.Choice.{pick, flag}
 use Rattle.bits.specs.Word.{bytes}
+use Rattle.bits.specs.Put.{overFront}
 use Rattle.tlp.specs.PacketTypes.{packetTypeAt, hasData}
 use Rattle.tlp.specs.Sizes.{lengthAt, digestAt}
 use Rattle.tlp_read.specs.Fields.{trafficClassAt, allAttributesAt, poisonedAt, requesterAt, tagAt, firstEnablesAt, lastEnablesAt, extendedRegisterAt, registerAt, codeAt}
 use Rattle.tlp_read.specs.Fields.{statusAt, byteCountModifiedAt, lowerAddressFieldAt, messageRouteAt, kindAt, packetAt}
-use Rattle.tlp_write.specs.Write.{overFront}
-use Rattle.tlp_record.specs.Record.{ownOf, routeCase, recordOf}
+use Rattle.tlp_record.specs.Record.{fieldsOf, routeCase, recordOf}
 
 -- a record fits
 abbrev pub Room : List ℕ → Type 0
@@ -27,7 +27,7 @@ dataFlag packet = flag (hasData (packetTypeAt packet))
 
 -- the kind's number
 abbrev pub kindRead : List ℕ → ℕ
-kindRead packet = ownOf (kindAt (packetTypeAt packet) packet) .kind
+kindRead packet = fieldsOf (kindAt (packetTypeAt packet) packet) .kind
 
 -- Msg and Cpl have no length
 abbrev pub lengthGiven : List ℕ → ℕ

@@ -1,37 +1,33 @@
-use Rattle.tlp_write.proofs.WriteLaws.{refused, refused-out, written, written-out, written-room, whole-law, held-le}
+use Rattle.tlp_write.proofs.WriteLaws.{unlisted, unlisted-out, listed, listed-out}
 use borrow.Author.Needs.{needs}
 use Rattle.tlp_write.proofs.write_head.Statement.{statement}
 use Rattle.tlp_write.proofs.write_head.Tie as tie
 
-data-bytes-requires : tie.Need-data-bytes-requires
-data-bytes-requires c κs = search needs
-
-whole-size-requires : tie.Need-whole-size-requires
-whole-size-requires c κs = search held-le
-
-head-number-requires : tie.Need-head-number-requires
-head-number-requires c κs = (search needs, search whole-law)
+settings-listed-requires : tie.Need-settings-listed-requires
+settings-listed-requires c κs = search needs
 
 returns : tie.Need-returns
-returns c = (search refused, search refused-out)
+returns c = (search unlisted, search unlisted-out)
 
-put-packet-requires : tie.Need-put-packet-requires
-put-packet-requires c κs = search written-room
+fault-number-requires : tie.Need-fault-number-requires
+fault-number-requires c κs = search needs
+
+write-judged-requires : tie.Need-write-judged-requires
+write-judged-requires c κs = search needs
 
 same-length : tie.Need-same-length
 same-length c = search needs
 
 returns-2 : tie.Need-returns-2
-returns-2 c = (search (written, whole-law), search written-out)
+returns-2 c = (search listed, search listed-out)
 
 pub write-head-spec : {M : Type 1} → statement M
 write-head-spec =
     tie.close
     (tie.spec
-    data-bytes-requires
-    whole-size-requires
-    head-number-requires
+    settings-listed-requires
     returns
-    put-packet-requires
+    fault-number-requires
+    write-judged-requires
     same-length
     returns-2)

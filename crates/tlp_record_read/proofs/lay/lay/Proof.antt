@@ -1,4 +1,4 @@
-use Rattle.tlp_write.proofs.PutLaws.{copied}
+use Rattle.bits.proofs.PutLaws.{copied}
 use borrow.Author.Needs.{needs}
 use Rattle.tlp_record_read.proofs.lay.lay.Statement.{statement}
 use Rattle.tlp_record_read.proofs.lay.lay.Tie as tie

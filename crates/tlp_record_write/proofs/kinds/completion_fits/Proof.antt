@@ -33,20 +33,20 @@ two-requires c κs = search needs
 one-requires-3 : tie.Need-one-requires-3
 one-requires-3 c κs = search needs
 
-both-requires : tie.Need-both-requires
-both-requires c κs = search needs
+both-hold-requires : tie.Need-both-hold-requires
+both-hold-requires c κs = search needs
 
-both-requires-2 : tie.Need-both-requires-2
-both-requires-2 c κs = search needs
+both-hold-requires-2 : tie.Need-both-hold-requires-2
+both-hold-requires-2 c κs = search needs
 
 one-requires-4 : tie.Need-one-requires-4
 one-requires-4 c κs = search needs
 
-both-requires-3 : tie.Need-both-requires-3
-both-requires-3 c κs = search needs
+both-hold-requires-3 : tie.Need-both-hold-requires-3
+both-hold-requires-3 c κs = search needs
 
-both-requires-4 : tie.Need-both-requires-4
-both-requires-4 c κs = search needs
+both-hold-requires-4 : tie.Need-both-hold-requires-4
+both-hold-requires-4 c κs = search needs
 
 returns-2 : tie.Need-returns-2
 returns-2 c = search completion-fits-law
@@ -65,9 +65,9 @@ completion-fits-spec =
     completion-over-requires
     two-requires
     one-requires-3
-    both-requires
-    both-requires-2
+    both-hold-requires
+    both-hold-requires-2
     one-requires-4
-    both-requires-3
-    both-requires-4
+    both-hold-requires-3
+    both-hold-requires-4
     returns-2)

@@ -36,11 +36,11 @@ one-requires-5 c κs = search needs
 one-requires-6 : tie.Need-one-requires-6
 one-requires-6 c κs = search needs
 
-both-requires : tie.Need-both-requires
-both-requires c κs = search needs
+both-hold-requires : tie.Need-both-hold-requires
+both-hold-requires c κs = search needs
 
-both-requires-2 : tie.Need-both-requires-2
-both-requires-2 c κs = search needs
+both-hold-requires-2 : tie.Need-both-hold-requires-2
+both-hold-requires-2 c κs = search needs
 
 returns-2 : tie.Need-returns-2
 returns-2 c = search config-fits-law
@@ -60,6 +60,6 @@ config-fits-spec =
     config-over-requires
     one-requires-5
     one-requires-6
-    both-requires
-    both-requires-2
+    both-hold-requires
+    both-hold-requires-2
     returns-2)

@@ -33,11 +33,11 @@ not-io-address-requires c κs = search needs
 one-requires-4 : tie.Need-one-requires-4
 one-requires-4 c κs = search needs
 
-both-requires : tie.Need-both-requires
-both-requires c κs = search needs
+both-hold-requires : tie.Need-both-hold-requires
+both-hold-requires c κs = search needs
 
-both-requires-2 : tie.Need-both-requires-2
-both-requires-2 c κs = search needs
+both-hold-requires-2 : tie.Need-both-hold-requires-2
+both-hold-requires-2 c κs = search needs
 
 returns-2 : tie.Need-returns-2
 returns-2 c = search io-fits-law
@@ -56,6 +56,6 @@ io-fits-spec =
     eight-requires
     not-io-address-requires
     one-requires-4
-    both-requires
-    both-requires-2
+    both-hold-requires
+    both-hold-requires-2
     returns-2)

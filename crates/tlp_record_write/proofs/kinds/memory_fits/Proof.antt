@@ -30,8 +30,8 @@ eight-requires c κs = search needs
 not-memory-address-requires : tie.Need-not-memory-address-requires
 not-memory-address-requires c κs = search needs
 
-both-requires : tie.Need-both-requires
-both-requires c κs = search needs
+both-hold-requires : tie.Need-both-hold-requires
+both-hold-requires c κs = search needs
 
 returns-2 : tie.Need-returns-2
 returns-2 c = search memory-fits-law
@@ -49,5 +49,5 @@ memory-fits-spec =
     one-requires-3
     eight-requires
     not-memory-address-requires
-    both-requires
+    both-hold-requires
     returns-2)

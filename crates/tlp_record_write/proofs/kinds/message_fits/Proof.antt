@@ -27,8 +27,8 @@ eight-requires-2 c κs = search needs
 not-message-requires : tie.Need-not-message-requires
 not-message-requires c κs = search needs
 
-both-requires : tie.Need-both-requires
-both-requires c κs = search needs
+both-hold-requires : tie.Need-both-hold-requires
+both-hold-requires c κs = search needs
 
 returns-2 : tie.Need-returns-2
 returns-2 c = search message-fits-law
@@ -45,5 +45,5 @@ message-fits-spec =
     eight-requires
     eight-requires-2
     not-message-requires
-    both-requires
+    both-hold-requires
     returns-2)

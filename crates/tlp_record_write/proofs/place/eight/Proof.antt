@@ -19,7 +19,7 @@ join64-requires c κs = search needs
 returns : tie.Need-returns
 returns c =
     let a = c .before .before .before .before .args in
-    omega (arith, word-split 4 4 (a .s .now) (a .i))
+    omega (arith, word-split 4 4 (a .«record» .now) (a .i))
 
 pub eight-spec : {M : Type 1} → statement M
 eight-spec = tie.close (tie.spec four-requires add-four four-requires-2 join64-requires returns)

@@ -19,7 +19,7 @@ join32-requires c κs = search needs
 returns : tie.Need-returns
 returns c =
     let a = c .before .before .before .before .args in
-    omega (arith, word-split 2 2 (a .s .now) (a .i))
+    omega (arith, word-split 2 2 (a .«record» .now) (a .i))
 
 pub four-spec : {M : Type 1} → statement M
 four-spec = tie.close (tie.spec two-requires add-two two-requires-2 join32-requires returns)

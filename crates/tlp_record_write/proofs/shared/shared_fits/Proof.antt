@@ -27,8 +27,8 @@ one-requires-5 c κs = search needs
 one-requires-6 : tie.Need-one-requires-6
 one-requires-6 c κs = search needs
 
-common-bad-requires : tie.Need-common-bad-requires
-common-bad-requires c κs = search needs
+common-over-requires : tie.Need-common-over-requires
+common-over-requires c κs = search needs
 
 all-hold-requires : tie.Need-all-hold-requires
 all-hold-requires c κs = search needs
@@ -48,6 +48,6 @@ shared-fits-spec =
     one-requires-4
     one-requires-5
     one-requires-6
-    common-bad-requires
+    common-over-requires
     all-hold-requires
     returns)

@@ -29,29 +29,29 @@ mul-flags-2 c = search needs
 add-flags : tie.Need-add-flags
 add-flags c = search needs
 
-mul-joined : tie.Need-mul-joined
-mul-joined c = search needs
+mul-word-of-bytes : tie.Need-mul-word-of-bytes
+mul-word-of-bytes c = search needs
 
-mul-joined-2 : tie.Need-mul-joined-2
-mul-joined-2 c = search needs
+mul-word-of-bytes-2 : tie.Need-mul-word-of-bytes-2
+mul-word-of-bytes-2 c = search needs
 
-add-joined : tie.Need-add-joined
-add-joined c = search needs
+add-word-of-bytes : tie.Need-add-word-of-bytes
+add-word-of-bytes c = search needs
 
-mul-joined-3 : tie.Need-mul-joined-3
-mul-joined-3 c = search needs
+mul-word-of-bytes-3 : tie.Need-mul-word-of-bytes-3
+mul-word-of-bytes-3 c = search needs
 
-add-joined-2 : tie.Need-add-joined-2
-add-joined-2 c = search needs
+add-word-of-bytes-2 : tie.Need-add-word-of-bytes-2
+add-word-of-bytes-2 c = search needs
 
-add-joined-3 : tie.Need-add-joined-3
-add-joined-3 c = search needs
+add-word-of-bytes-3 : tie.Need-add-word-of-bytes-3
+add-word-of-bytes-3 c = search needs
 
-cast-joined : tie.Need-cast-joined
-cast-joined c = search needs
+cast-word-of-bytes : tie.Need-cast-word-of-bytes
+cast-word-of-bytes c = search needs
 
-joined-requires : tie.Need-joined-requires
-joined-requires c κs = search needs
+word-of-bytes-requires : tie.Need-word-of-bytes-requires
+word-of-bytes-requires c κs = search needs
 
 returns : tie.Need-returns
 returns c = search front-law
@@ -68,12 +68,12 @@ front-word-spec =
     flag-of-requires-2
     mul-flags-2
     add-flags
-    mul-joined
-    mul-joined-2
-    add-joined
-    mul-joined-3
-    add-joined-2
-    add-joined-3
-    cast-joined
-    joined-requires
+    mul-word-of-bytes
+    mul-word-of-bytes-2
+    add-word-of-bytes
+    mul-word-of-bytes-3
+    add-word-of-bytes-2
+    add-word-of-bytes-3
+    cast-word-of-bytes
+    word-of-bytes-requires
     returns)

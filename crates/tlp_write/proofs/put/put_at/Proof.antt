@@ -1,4 +1,4 @@
-use Rattle.tlp_write.proofs.PutLaws.{copied-end, copied}
+use Rattle.bits.proofs.PutLaws.{copied-end, copied}
 use borrow.Author.Needs.{needs}
 use Rattle.tlp_write.proofs.put.put_at.Statement.{statement}
 use Rattle.tlp_write.proofs.put.put_at.Tie as tie

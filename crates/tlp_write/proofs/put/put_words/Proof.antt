@@ -3,14 +3,8 @@ use borrow.Author.Needs.{needs}
 use Rattle.tlp_write.proofs.put.put_words.Statement.{statement}
 use Rattle.tlp_write.proofs.put.put_words.Tie as tie
 
-mul-put-eight : tie.Need-mul-put-eight
-mul-put-eight c = search needs
-
-cast-put-eight : tie.Need-cast-put-eight
-cast-put-eight c = search needs
-
-add-put-eight : tie.Need-add-put-eight
-add-put-eight c = search needs
+join64-requires : tie.Need-join64-requires
+join64-requires c κs = search needs
 
 put-eight-requires : tie.Need-put-eight-requires
 put-eight-requires c κs = search first-room
@@ -40,9 +34,7 @@ pub put-words-spec : {M : Type 1} → statement M
 put-words-spec =
     tie.close
     (tie.spec
-    mul-put-eight
-    cast-put-eight
-    add-put-eight
+    join64-requires
     put-eight-requires
     put-eight-requires-2
     same-length

@@ -3,20 +3,14 @@ use borrow.Author.Needs.{needs}
 use Rattle.tlp_write.proofs.words.word_of.Statement.{statement}
 use Rattle.tlp_write.proofs.words.word_of.Tie as tie
 
-mul-result : tie.Need-mul-result
-mul-result c = search needs
+join16-requires : tie.Need-join16-requires
+join16-requires c κs = search needs
 
-mul-result-2 : tie.Need-mul-result-2
-mul-result-2 c = search needs
-
-add-result : tie.Need-add-result
-add-result c = search needs
-
-add-result-2 : tie.Need-add-result-2
-add-result-2 c = search needs
+join32-requires : tie.Need-join32-requires
+join32-requires c κs = search needs
 
 returns : tie.Need-returns
 returns c = search word-law
 
 pub word-of-spec : {M : Type 1} → statement M
-word-of-spec = tie.close (tie.spec mul-result mul-result-2 add-result add-result-2 returns)
+word-of-spec = tie.close (tie.spec join16-requires join32-requires returns)

@@ -1,0 +1,4 @@
+pub mod Fit
+pub mod Shared
+pub mod Kinds
+pub mod KindHead
