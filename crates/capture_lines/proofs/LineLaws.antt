@@ -10,39 +10,39 @@ use Rattle.capture_lines.specs.Lines.{isNewline, lineWith, completeLines
 
 -- ---- a byte before others: it ends a line, or stands in the unended line, or in the first line
 
-pub data Place (b : ℕ) (s : List ℕ) : Type 0 where
-  ends : isNewline b ≡ true → Place b s
-  unfinished : isNewline b ≡ false → completeLines s ≡ [] → Place b s
-  within : isNewline b ≡ false → (text : List ℕ) (texts : List (List ℕ)) → completeLines s ≡ text ∷ texts → Place b s
+pub data Place (b : ℕ) (bytes : List ℕ) : Type 0 where
+  ends : isNewline b ≡ true → Place b bytes
+  unfinished : isNewline b ≡ false → completeLines bytes ≡ [] → Place b bytes
+  within : isNewline b ≡ false → (text : List ℕ) (texts : List (List ℕ)) → completeLines bytes ≡ text ∷ texts → Place b bytes
 
-place-by : (b : ℕ) (s : List ℕ) (t : Bool) (lines : List (List ℕ)) → isNewline b ≡ t → completeLines s ≡ lines → Place b s
-place-by b s true lines h e = ends h
-place-by b s false [] h e = unfinished h e
-place-by b s false (text ∷ texts) h e = within h text texts e
+place-by : (b : ℕ) (bytes : List ℕ) (t : Bool) (lines : List (List ℕ)) → isNewline b ≡ t → completeLines bytes ≡ lines → Place b bytes
+place-by b bytes true lines h e = ends h
+place-by b bytes false [] h e = unfinished h e
+place-by b bytes false (text ∷ texts) h e = within h text texts e
 
-pub place : (b : ℕ) (s : List ℕ) → Place b s
-place b s = place-by b s (isNewline b) (completeLines s) refl refl
+pub place : (b : ℕ) (bytes : List ℕ) → Place b bytes
+place b bytes = place-by b bytes (isNewline b) (completeLines bytes) refl refl
 
 -- ---- the lines of two parts
 
 pub complete-append : (x y : List ℕ) → completeLines (x ++ y) ≡ completeLines x ++ completeLines (unended x ++ y)
 unfolding completeLines unended lineWith tailWith
 complete-append [] y = refl
-complete-append (b ∷ s) y =
-    elim (place b s) [
-      | ends h ↦ rw (h, complete-append s y)
+complete-append (b ∷ bytes) y =
+    elim (place b bytes) [
+      | ends h ↦ rw (h, complete-append bytes y)
       | unfinished h e ↦ rw (h, e, h)
-      | within h text texts e ↦ rw (h, complete-append s y, e)
+      | within h text texts e ↦ rw (h, complete-append bytes y, e)
     ]
 
 pub unended-append : (x y : List ℕ) → unended (x ++ y) ≡ unended (unended x ++ y)
 unfolding completeLines unended lineWith tailWith
 unended-append [] y = refl
-unended-append (b ∷ s) y =
-    elim (place b s) [
-      | ends h ↦ rw h (unended-append s y)
+unended-append (b ∷ bytes) y =
+    elim (place b bytes) [
+      | ends h ↦ rw h (unended-append bytes y)
       | unfinished h e ↦ rw (h, e, h)
-      | within h text texts e ↦ rw (h, complete-append s y, e) (unended-append s y)
+      | within h text texts e ↦ rw (h, complete-append bytes y, e) (unended-append bytes y)
     ]
 
 -- ---- the unended line
@@ -51,63 +51,60 @@ unended-append (b ∷ s) y =
 pub complete-unended : (x : List ℕ) → completeLines (unended x) ≡ []
 unfolding completeLines unended lineWith tailWith
 complete-unended [] = refl
-complete-unended (b ∷ s) =
-    elim (place b s) [
-      | ends h ↦ rw h (complete-unended s)
+complete-unended (b ∷ bytes) =
+    elim (place b bytes) [
+      | ends h ↦ rw h (complete-unended bytes)
       | unfinished h e ↦ rw (h, e, h, e)
-      | within h text texts e ↦ rw (h, e) (complete-unended s)
+      | within h text texts e ↦ rw (h, e) (complete-unended bytes)
     ]
 
-cons-not-nil : {A : Type 0} (a : A) (s : List A) → a ∷ s ≡ [] → ⊥
-cons-not-nil a s e = let z : _≡_ {A = ℕ} 0 1 = cc in omega arith
+cons-not-nil : {A : Type 0} (a : A) (rest : List A) → a ∷ rest ≡ [] → ⊥
+cons-not-nil a rest e = let z : _≡_ {A = ℕ} 0 1 = cc in omega arith
 
 -- and is all of bytes that have none
 pub unended-all : (x : List ℕ) → completeLines x ≡ [] → unended x ≡ x
 unfolding completeLines unended lineWith tailWith
 unended-all [] n = refl
-unended-all (b ∷ s) n =
-    elim (place b s) [
+unended-all (b ∷ bytes) n =
+    elim (place b bytes) [
       | ends h ↦ absurd (cons-not-nil _ _ (rw h at n))
       | unfinished h e ↦ rw (h, e)
       | within h text texts e ↦ absurd (cons-not-nil _ _ (rw (h, e) at n))
     ]
 
-pub unended-twice : (x : List ℕ) → unended (unended x) ≡ unended x
-unended-twice x = unended-all (unended x) (complete-unended x)
-
 pub unended-le : (x : List ℕ) → length (unended x) ≤ length x
 unfolding completeLines unended lineWith tailWith
 unended-le [] = omega arith
-unended-le (b ∷ s) =
-    elim (place b s) [
-      | ends h ↦ rw h (omega (arith, unended-le s))
+unended-le (b ∷ bytes) =
+    elim (place b bytes) [
+      | ends h ↦ rw h (omega (arith, unended-le bytes))
       | unfinished h e ↦ rw (h, e) (omega arith)
-      | within h text texts e ↦ rw (h, e) (omega (arith, unended-le s))
+      | within h text texts e ↦ rw (h, e) (omega (arith, unended-le bytes))
     ]
 
 -- each complete line has its newline
 pub complete-le : (x : List ℕ) → length (completeLines x) + length (unended x) ≤ length x
 unfolding completeLines unended lineWith tailWith
 complete-le [] = omega arith
-complete-le (b ∷ s) =
-    elim (place b s) [
-      | ends h ↦ rw h (omega (arith, complete-le s))
+complete-le (b ∷ bytes) =
+    elim (place b bytes) [
+      | ends h ↦ rw h (omega (arith, complete-le bytes))
       | unfinished h e ↦ rw (h, e) (omega arith)
-      | within h text texts e ↦ rw (h, e) (omega (arith, rw e at (complete-le s)))
+      | within h text texts e ↦ rw (h, e) (omega (arith, rw e at (complete-le bytes)))
     ]
 
 -- it stands at the end
-drop-more : (b : ℕ) (s : List ℕ) (n : ℕ) → n ≤ length s → drop (suc (length s) - n) (b ∷ s) ≡ drop (length s - n) s
-drop-more b s n l = let e : suc (length s) - n ≡ suc (length s - n) = omega arith in rw e
+drop-more : (b : ℕ) (bytes : List ℕ) (n : ℕ) → n ≤ length bytes → drop (suc (length bytes) - n) (b ∷ bytes) ≡ drop (length bytes - n) bytes
+drop-more b bytes n l = let e : suc (length bytes) - n ≡ suc (length bytes - n) = omega arith in rw e
 
 pub drop-unended : (x : List ℕ) → drop (length x - length (unended x)) x ≡ unended x
 unfolding completeLines unended lineWith tailWith
 drop-unended [] = refl
-drop-unended (b ∷ s) =
-    elim (place b s) [
-      | ends h ↦ rw h (drop-more b s _ (unended-le s) ∙ drop-unended s)
-      | unfinished h e ↦ rw (h, e, sub-self (suc (length s)))
-      | within h text texts e ↦ rw (h, e) (drop-more b s _ (unended-le s) ∙ drop-unended s)
+drop-unended (b ∷ bytes) =
+    elim (place b bytes) [
+      | ends h ↦ rw h (drop-more b bytes _ (unended-le bytes) ∙ drop-unended bytes)
+      | unfinished h e ↦ rw (h, e, sub-self (suc (length bytes)))
+      | within h text texts e ↦ rw (h, e) (drop-more b bytes _ (unended-le bytes) ∙ drop-unended bytes)
     ]
 
 -- ---- an unended line before further bytes: it stays unended, or begins the first line
@@ -138,19 +135,19 @@ continued (b ∷ t) y n =
 -- ---- the first line, and what follows it
 
 abbrev pub Following : List ℕ → List (List ℕ) → Type 0
-Following s [] = unended s ≡ s
-Following s (text ∷ texts) =
-    (suc (length text) ≤ length s) × ((completeLines (drop (suc (length text)) s) ≡ texts) × (unended (drop (suc (length text)) s) ≡ unended s))
+Following bytes [] = unended bytes ≡ bytes
+Following bytes (text ∷ texts) =
+    (suc (length text) ≤ length bytes) × ((completeLines (drop (suc (length text)) bytes) ≡ texts) × (unended (drop (suc (length text)) bytes) ≡ unended bytes))
 
-pub following-all : (s : List ℕ) → Following s (completeLines s)
+pub following-all : (bytes : List ℕ) → Following bytes (completeLines bytes)
 unfolding completeLines unended lineWith tailWith
 following-all [] = refl
-following-all (b ∷ s) =
-    elim (place b s) [
+following-all (b ∷ bytes) =
+    elim (place b bytes) [
       | ends h ↦ rw h (omega arith, (refl, rw h))
       | unfinished h e ↦ rw (h, e) (rw (h, e))
-      | within h text texts e ↦ let f : Following s (text ∷ texts) = subst (λ x. Following s x) e (following-all s) in rw (h, e) (omega (arith, f .0), (f .1 .0, rw (h, e) (f .1 .1)))
+      | within h text texts e ↦ let f : Following bytes (text ∷ texts) = subst (λ x. Following bytes x) e (following-all bytes) in rw (h, e) (omega (arith, f .0), (f .1 .0, rw (h, e) (f .1 .1)))
     ]
 
-pub following : (s text : List ℕ) (texts : List (List ℕ)) → completeLines s ≡ text ∷ texts → Following s (text ∷ texts)
-following s text texts e = subst (λ x. Following s x) e (following-all s)
+pub following : (bytes text : List ℕ) (texts : List (List ℕ)) → completeLines bytes ≡ text ∷ texts → Following bytes (text ∷ texts)
+following bytes text texts e = subst (λ x. Following bytes x) e (following-all bytes)

@@ -29,16 +29,16 @@ ends-by false m n =
 
 -- the code has looked at the first i bytes
 
-module _ (s : List ℕ) (i : ℕ) (found t : Bool) (q : found || ltb (lineLength (drop i s)) (length (drop i s)) ≡ t) where
-  pub found-done : length s ≤ i → found ≡ t
+module _ (bytes : List ℕ) (i : ℕ) (found t : Bool) (q : found || ltb (lineLength (drop i bytes)) (length (drop i bytes)) ≡ t) where
+  pub found-done : length bytes ≤ i → found ≡ t
   unfolding lineLength
-  found-done h = sym (or-false found) ∙ (rw (drop-of-length-le s h) at q)
+  found-done h = sym (or-false found) ∙ (rw (drop-of-length-le bytes h) at q)
 
-  pub found-next : i < length s → (found || eqb (getD s i 0) 10) || ltb (lineLength (drop (i + 1) s)) (length (drop (i + 1) s)) ≡ t
+  pub found-next : i < length bytes → (found || eqb (getD bytes i 0) 10) || ltb (lineLength (drop (i + 1) bytes)) (length (drop (i + 1) bytes)) ≡ t
   unfolding lineLength
   found-next h =
-      let k = drop (suc i) s in
-      rw (add-one i, or-assoc found (eqb (getD s i 0) 10) (ltb (lineLength k) (length k)), ← ends-by (eqb (getD s i 0) 10) (lineLength k) (length k)) (rw (drop-cons s i 0 h) at q)
+      let k = drop (suc i) bytes in
+      rw (add-one i, or-assoc found (eqb (getD bytes i 0) 10) (ltb (lineLength k) (length k)), ← ends-by (eqb (getD bytes i 0) 10) (lineLength k) (length k)) (rw (drop-cons bytes i 0 h) at q)
 
 pub ruleset found-laws = (found-done, found-next)
 
@@ -53,69 +53,69 @@ or-right : (a b : Bool) → a || b ≡ false → b ≡ false
 or-right true b h = absurd (true≢false h)
 or-right false b h = h
 
-skipped : (k : ℕ) (s : List ℕ) → k ≤ length s → ltb (lineLength (take k s)) (length (take k s)) ≡ false → k + lineLength (drop k s) ≡ lineLength s
+skipped : (k : ℕ) (bytes : List ℕ) → k ≤ length bytes → ltb (lineLength (take k bytes)) (length (take k bytes)) ≡ false → k + lineLength (drop k bytes) ≡ lineLength bytes
 unfolding lineLength
-skipped zero s l e = omega arith
+skipped zero bytes l e = omega arith
 skipped (suc k) [] l e = absurd (omega arith)
-skipped (suc k) (b ∷ s) l e =
-    let f : isNewline b || ltb (lineLength (take k s)) (length (take k s)) ≡ false = sym (ends-by (isNewline b) (lineLength (take k s)) (length (take k s))) ∙ e in
-    let h : k + lineLength (drop k s) ≡ lineLength s = skipped k s (omega arith) (or-right (isNewline b) _ f) in
+skipped (suc k) (b ∷ bytes) l e =
+    let f : isNewline b || ltb (lineLength (take k bytes)) (length (take k bytes)) ≡ false = sym (ends-by (isNewline b) (lineLength (take k bytes)) (length (take k bytes))) ∙ e in
+    let h : k + lineLength (drop k bytes) ≡ lineLength bytes = skipped k bytes (omega arith) (or-right (isNewline b) _ f) in
     rw (or-left (isNewline b) _ f) (omega arith)
 
 -- the first newline from index i on is at index t, or that is the end
 
-module _ (s : List ℕ) (i t : ℕ) (q : i + lineLength (drop i s) ≡ t) where
-  pub chunk-next : (r : Bool) → r ≡ ltb (lineLength (take (i + 32 - i) (drop i s))) (length (take (i + 32 - i) (drop i s))) → r ≡ false
-      → 32 ≤ length s - i → i + 32 + lineLength (drop (i + 32) s) ≡ t
+module _ (bytes : List ℕ) (i t : ℕ) (q : i + lineLength (drop i bytes) ≡ t) where
+  pub chunk-next : (r : Bool) → r ≡ ltb (lineLength (take (i + 32 - i) (drop i bytes))) (length (take (i + 32 - i) (drop i bytes))) → r ≡ false
+      → 32 ≤ length bytes - i → i + 32 + lineLength (drop (i + 32) bytes) ≡ t
   chunk-next r e f h =
       let z : i + 32 - i ≡ 32 = omega arith in
-      let k : 32 + lineLength (drop 32 (drop i s)) ≡ lineLength (drop i s) = skipped 32 (drop i s) (rw (length-drop i s) h) (rw z at (sym e ∙ f)) in
-      rw (← drop-drop 32 i s) (omega arith)
+      let k : 32 + lineLength (drop 32 (drop i bytes)) ≡ lineLength (drop i bytes) = skipped 32 (drop i bytes) (rw (length-drop i bytes) h) (rw z at (sym e ∙ f)) in
+      rw (← drop-drop 32 i bytes) (omega arith)
 
-  pub line-done : length s ≤ i → i ≡ t
+  pub line-done : length bytes ≤ i → i ≡ t
   unfolding lineLength
-  line-done h = sym (add-zero i) ∙ (rw (drop-of-length-le s h) at q)
+  line-done h = sym (add-zero i) ∙ (rw (drop-of-length-le bytes h) at q)
 
-  module _ (h : i < length s) where
-    pub line-here : getD s i 0 ≡ 10 → i ≡ t
+  module _ (h : i < length bytes) where
+    pub line-here : getD bytes i 0 ≡ 10 → i ≡ t
     unfolding lineLength
-    line-here e = sym (add-zero i) ∙ (rw (drop-cons s i 0 h, eq-eqb (getD s i 0) 10 e) at q)
+    line-here e = sym (add-zero i) ∙ (rw (drop-cons bytes i 0 h, eq-eqb (getD bytes i 0) 10 e) at q)
 
-    pub line-next : (getD s i 0 ≡ 10 → ⊥) → i + 1 + lineLength (drop (i + 1) s) ≡ t
+    pub line-next : (getD bytes i 0 ≡ 10 → ⊥) → i + 1 + lineLength (drop (i + 1) bytes) ≡ t
     unfolding lineLength
     line-next e =
-        let k : i + suc (lineLength (drop (suc i) s)) ≡ t = rw (drop-cons s i 0 h, ne-eqb (getD s i 0) 10 e) at q in
+        let k : i + suc (lineLength (drop (suc i) bytes)) ≡ t = rw (drop-cons bytes i 0 h, ne-eqb (getD bytes i 0) 10 e) at q in
         rw (add-one i) (omega arith)
 
 pub ruleset line-laws = (chunk-next, line-done, line-here, line-next)
 
 -- ---- the line
 
-clipped : (s : List ℕ) (place start : ℕ) → start ≡ min place (length s) → drop start s ≡ drop place s
-clipped s place start e =
+clipped : (bytes : List ℕ) (place start : ℕ) → start ≡ min place (length bytes) → drop start bytes ≡ drop place bytes
+clipped bytes place start e =
     ⊎-elim
-    (λ (h : place < length s). let k : start ≡ place = omega arith in rw k)
-    (λ (h : length s ≤ place). rw (drop-of-length-le s h, drop-of-length-le s {i = start} (omega arith)))
-    (lt-or-le place (length s))
+    (λ (h : place < length bytes). let k : start ≡ place = omega arith in rw k)
+    (λ (h : length bytes ≤ place). rw (drop-of-length-le bytes h, drop-of-length-le bytes {i = start} (omega arith)))
+    (lt-or-le place (length bytes))
 
-module _ (s : List ℕ) (place start e : ℕ) (f : start ≡ min place (length s)) (g : e ≡ start + lineLength (drop start s)) where
-  same : start + lineLength (drop place s) ≡ e
-  same = rw (← clipped s place start f) (sym g)
+module _ (bytes : List ℕ) (place start e : ℕ) (f : start ≡ min place (length bytes)) (g : e ≡ start + lineLength (drop start bytes)) where
+  same : start + lineLength (drop place bytes) ≡ e
+  same = rw (← clipped bytes place start f) (sym g)
 
-  pub next-unended : length s ≤ e → Unended e ≡ nextLine s place
+  pub next-unended : length bytes ≤ e → Unended e ≡ nextLine bytes place
   unfolding nextLine
-  next-unended h = rw (← f, same, le-ltb e (length s) h)
+  next-unended h = rw (← f, same, le-ltb e (length bytes) h)
 
-  module _ (h : e < length s) where
-    count : lineLength (drop place s) ≡ e - start
+  module _ (h : e < length bytes) where
+    count : lineLength (drop place bytes) ≡ e - start
     count = omega (arith, same)
 
-    pub next-over : 8266 < e - start → OverLong (e + 1) ≡ nextLine s place
+    pub next-over : 8266 < e - start → OverLong (e + 1) ≡ nextLine bytes place
     unfolding nextLine
-    next-over k = rw (← f, same, lt-ltb e (length s) h, count, lt-ltb 8266 (e - start) k, add-one e)
+    next-over k = rw (← f, same, lt-ltb e (length bytes) h, count, lt-ltb 8266 (e - start) k, add-one e)
 
-    pub next-ended : e - start ≤ 8266 → Ended (e + 1) ≡ nextLine s place
+    pub next-ended : e - start ≤ 8266 → Ended (e + 1) ≡ nextLine bytes place
     unfolding nextLine
-    next-ended k = rw (← f, same, lt-ltb e (length s) h, count, le-ltb 8266 (e - start) k, add-one e)
+    next-ended k = rw (← f, same, lt-ltb e (length bytes) h, count, le-ltb 8266 (e - start) k, add-one e)
 
 pub ruleset next-laws = (next-unended, next-over, next-ended)

@@ -16,86 +16,86 @@ use Rattle.capture_lines.proofs.LineLaws.{place, ends, unfinished, with
 -- ---- the bytes before the first newline
 
 abbrev Before : List ℕ → List (List ℕ) → Type 0
-Before s [] = lineLength s ≡ length s
-Before s (text ∷ texts) = (lineLength s ≡ length text) × (take (length text) s ≡ text)
+Before bytes [] = lineLength bytes ≡ length bytes
+Before bytes (text ∷ texts) = (lineLength bytes ≡ length text) × (take (length text) bytes ≡ text)
 
-before-all : (s : List ℕ) → Before s (completeLines s)
+before-all : (bytes : List ℕ) → Before bytes (completeLines bytes)
 unfolding completeLines lineWith lineLength
 before-all [] = refl
-before-all (b ∷ s) =
-    elim (place b s) [
+before-all (b ∷ bytes) =
+    elim (place b bytes) [
       | ends h ↦ rw h (rw h, refl)
-      | unfinished h e ↦ let f : Before s [] = subst (λ x. Before s x) e (before-all s) in rw (h, e) (rw (h, f))
-      | within h text texts e ↦ let f : Before s (text ∷ texts) = subst (λ x. Before s x) e (before-all s) in rw (h, e) (rw (h, f .0), ap (λ (x : List ℕ). b ∷ x) (f .1))
+      | unfinished h e ↦ let f : Before bytes [] = subst (λ x. Before bytes x) e (before-all bytes) in rw (h, e) (rw (h, f))
+      | within h text texts e ↦ let f : Before bytes (text ∷ texts) = subst (λ x. Before bytes x) e (before-all bytes) in rw (h, e) (rw (h, f .0), ap (λ (x : List ℕ). b ∷ x) (f .1))
     ]
 
 -- ---- the next line
 
-module _ (s : List ℕ) (at : ℕ) (l : at ≤ length s) where
-  next-none : completeLines (drop at s) ≡ [] → nextLine s at ≡ Unended (length s)
+module _ (bytes : List ℕ) (at : ℕ) (l : at ≤ length bytes) where
+  next-none : completeLines (drop at bytes) ≡ [] → nextLine bytes at ≡ Unended (length bytes)
   unfolding nextLine
   next-none e =
-      let n : lineLength (drop at s) ≡ length s - at = subst (λ x. Before (drop at s) x) e (before-all (drop at s)) ∙ length-drop at s in
-      let m : min at (length s) ≡ at = omega (arith, l) in
-      let z : at + (length s - at) ≡ length s = omega (arith, l) in
-      rw (n, m, z, le-ltb (length s) (length s) (omega arith))
+      let n : lineLength (drop at bytes) ≡ length bytes - at = subst (λ x. Before (drop at bytes) x) e (before-all (drop at bytes)) ∙ length-drop at bytes in
+      let m : min at (length bytes) ≡ at = omega (arith, l) in
+      let z : at + (length bytes - at) ≡ length bytes = omega (arith, l) in
+      rw (n, m, z, le-ltb (length bytes) (length bytes) (omega arith))
 
-  module _ (text : List ℕ) (texts : List (List ℕ)) (e : completeLines (drop at s) ≡ text ∷ texts) where
-    next-some : nextLine s at ≡ pick (overLong text) (OverLong (suc (at + length text))) (Ended (suc (at + length text)))
+  module _ (text : List ℕ) (texts : List (List ℕ)) (e : completeLines (drop at bytes) ≡ text ∷ texts) where
+    next-some : nextLine bytes at ≡ pick (overLong text) (OverLong (suc (at + length text))) (Ended (suc (at + length text)))
     unfolding nextLine overLong
     next-some =
-        let n : lineLength (drop at s) ≡ length text = subst (λ x. Before (drop at s) x) e (before-all (drop at s)) .0 in
-        let m : min at (length s) ≡ at = omega (arith, l) in
-        rw (n, m, lt-ltb (at + length text) (length s) (omega (arith, following (drop at s) text texts e .0, length-drop at s)))
+        let n : lineLength (drop at bytes) ≡ length text = subst (λ x. Before (drop at bytes) x) e (before-all (drop at bytes)) .0 in
+        let m : min at (length bytes) ≡ at = omega (arith, l) in
+        rw (n, m, lt-ltb (at + length text) (length bytes) (omega (arith, following (drop at bytes) text texts e .0, length-drop at bytes)))
 
-    some-text : take (length text) (drop at s) ≡ text
-    some-text = subst (λ x. Before (drop at s) x) e (before-all (drop at s)) .1
+    some-text : take (length text) (drop at bytes) ≡ text
+    some-text = subst (λ x. Before (drop at bytes) x) e (before-all (drop at bytes)) .1
 
 -- a complete line from index at up to index end
-pub record Complete (s : List ℕ) (at end : ℕ) (text : List ℕ) : Type 0 where
-  pub first : completeLines (drop at s) ≡ text ∷ completeLines (drop end s)
-  pub tail : unended (drop end s) ≡ unended (drop at s)
+pub record Complete (bytes : List ℕ) (at end : ℕ) (text : List ℕ) : Type 0 where
+  pub first : completeLines (drop at bytes) ≡ text ∷ completeLines (drop end bytes)
+  pub tail : unended (drop end bytes) ≡ unended (drop at bytes)
   pub size : at + suc (length text) ≡ end
-  pub inside : end ≤ length s
+  pub inside : end ≤ length bytes
 
-module _ (s : List ℕ) (at : ℕ) (l : at ≤ length s) where
-  complete-some : (text : List ℕ) (texts : List (List ℕ)) → completeLines (drop at s) ≡ text ∷ texts → Complete s at (suc (at + length text)) text
+module _ (bytes : List ℕ) (at : ℕ) (l : at ≤ length bytes) where
+  complete-some : (text : List ℕ) (texts : List (List ℕ)) → completeLines (drop at bytes) ≡ text ∷ texts → Complete bytes at (suc (at + length text)) text
   complete-some text texts e =
-      let f : Following (drop at s) (text ∷ texts) = following (drop at s) text texts e in
+      let f : Following (drop at bytes) (text ∷ texts) = following (drop at bytes) text texts e in
       let k : suc (at + length text) ≡ at + suc (length text) = omega arith in
-      let d : drop (suc (length text)) (drop at s) ≡ drop (suc (at + length text)) s = drop-drop (suc (length text)) at s ∙ ap (λ (n : ℕ). drop n s) (sym k) in
+      let d : drop (suc (length text)) (drop at bytes) ≡ drop (suc (at + length text)) bytes = drop-drop (suc (length text)) at bytes ∙ ap (λ (n : ℕ). drop n bytes) (sym k) in
       record {
         first = e ∙ ap (λ (x : List (List ℕ)). text ∷ x) (sym (f .1 .0) ∙ ap completeLines d);
         tail = sym (ap unended d) ∙ f .1 .1;
         size = sym k;
-        inside = omega (arith, f .0, length-drop at s);
+        inside = omega (arith, f .0, length-drop at bytes);
       }
 
   -- the part of the bytes that is its text
-  text-part : (text : List ℕ) (end : ℕ) → take (length text) (drop at s) ≡ text → end ≡ suc (at + length text) → take (end - 1 - at) (drop at s) ≡ text
+  text-part : (text : List ℕ) (end : ℕ) → take (length text) (drop at bytes) ≡ text → end ≡ suc (at + length text) → take (end - 1 - at) (drop at bytes) ≡ text
   text-part text end e q = let k : end - 1 - at ≡ length text = omega (arith, q) in rw k e
 
-  module _ (v : NextLine) (q : v ≡ nextLine s at) where
-    unended-in : (ls : List (List ℕ)) (end : ℕ) → completeLines (drop at s) ≡ ls → v ≡ Unended end → (completeLines (drop at s) ≡ []) × (end ≡ length s)
-    unended-in [] end e u = let w : Unended end ≡ Unended (length s) = sym u ∙ (q ∙ next-none s at l e) in (e, cc)
-    unended-in (text ∷ texts) end e u = clash (overLong text) (sym u ∙ (q ∙ next-some s at l text texts e)) where
-      clash : (r : Bool) → Unended end ≡ pick r (OverLong (suc (at + length text))) (Ended (suc (at + length text))) → (completeLines (drop at s) ≡ []) × (end ≡ length s)
+  module _ (v : NextLine) (q : v ≡ nextLine bytes at) where
+    unended-in : (ls : List (List ℕ)) (end : ℕ) → completeLines (drop at bytes) ≡ ls → v ≡ Unended end → (completeLines (drop at bytes) ≡ []) × (end ≡ length bytes)
+    unended-in [] end e u = let w : Unended end ≡ Unended (length bytes) = sym u ∙ (q ∙ next-none bytes at l e) in (e, cc)
+    unended-in (text ∷ texts) end e u = clash (overLong text) (sym u ∙ (q ∙ next-some bytes at l text texts e)) where
+      clash : (r : Bool) → Unended end ≡ pick r (OverLong (suc (at + length text))) (Ended (suc (at + length text))) → (completeLines (drop at bytes) ≡ []) × (end ≡ length bytes)
       clash true w = let z : _≡_ {A = ℕ} 0 1 = cc in absurd (omega arith)
       clash false w = let z : _≡_ {A = ℕ} 0 1 = cc in absurd (omega arith)
 
     abbrev Found : Bool → ℕ → Type 0
-    Found r end = Complete s at end (take (end - 1 - at) (drop at s)) × (overLong (take (end - 1 - at) (drop at s)) ≡ r)
+    Found r end = Complete bytes at end (take (end - 1 - at) (drop at bytes)) × (overLong (take (end - 1 - at) (drop at bytes)) ≡ r)
 
-    found : (text : List ℕ) (texts : List (List ℕ)) (r : Bool) (end : ℕ) → completeLines (drop at s) ≡ text ∷ texts → overLong text ≡ r → end ≡ suc (at + length text) → Found r end
+    found : (text : List ℕ) (texts : List (List ℕ)) (r : Bool) (end : ℕ) → completeLines (drop at bytes) ≡ text ∷ texts → overLong text ≡ r → end ≡ suc (at + length text) → Found r end
     found text texts r end e o k =
-        let t : take (end - 1 - at) (drop at s) ≡ text = text-part text end (some-text s at l text texts e) k in
+        let t : take (end - 1 - at) (drop at bytes) ≡ text = text-part text end (some-text bytes at l text texts e) k in
         rw (t, k) (complete-some text texts e, o)
 
     -- a line with its newline: over-long by r
     abbrev lineOf : Bool → ℕ → NextLine
     lineOf r end = pick r (OverLong end) (Ended end)
 
-    found-by : (text : List ℕ) (texts : List (List ℕ)) (r o : Bool) (end : ℕ) → completeLines (drop at s) ≡ text ∷ texts → overLong text ≡ o → lineOf r end ≡ lineOf o (suc (at + length text)) → Found r end
+    found-by : (text : List ℕ) (texts : List (List ℕ)) (r o : Bool) (end : ℕ) → completeLines (drop at bytes) ≡ text ∷ texts → overLong text ≡ o → lineOf r end ≡ lineOf o (suc (at + length text)) → Found r end
     found-by text texts true true end e h w = found text texts true end e h cc
     found-by text texts false false end e h w = found text texts false end e h cc
     found-by text texts true false end e h w = let z : _≡_ {A = ℕ} 0 1 = cc in absurd (omega arith)
@@ -105,15 +105,15 @@ module _ (s : List ℕ) (at : ℕ) (l : at ≤ length s) where
     none-by true end size w = let z : _≡_ {A = ℕ} 0 1 = cc in absurd (omega arith)
     none-by false end size w = let z : _≡_ {A = ℕ} 0 1 = cc in absurd (omega arith)
 
-    line-in : (r : Bool) (ls : List (List ℕ)) (end : ℕ) → completeLines (drop at s) ≡ ls → v ≡ lineOf r end → Found r end
-    line-in r [] end e u = none-by r end (length s) (sym u ∙ (q ∙ next-none s at l e))
-    line-in r (text ∷ texts) end e u = found-by text texts r (overLong text) end e refl (sym u ∙ (q ∙ next-some s at l text texts e))
+    line-in : (r : Bool) (ls : List (List ℕ)) (end : ℕ) → completeLines (drop at bytes) ≡ ls → v ≡ lineOf r end → Found r end
+    line-in r [] end e u = none-by r end (length bytes) (sym u ∙ (q ∙ next-none bytes at l e))
+    line-in r (text ∷ texts) end e u = found-by text texts r (overLong text) end e refl (sym u ∙ (q ∙ next-some bytes at l text texts e))
 
-    pub unended-line : (end : ℕ) → v ≡ Unended end → (completeLines (drop at s) ≡ []) × (end ≡ length s)
-    unended-line end u = unended-in (completeLines (drop at s)) end refl u
+    pub unended-line : (end : ℕ) → v ≡ Unended end → (completeLines (drop at bytes) ≡ []) × (end ≡ length bytes)
+    unended-line end u = unended-in (completeLines (drop at bytes)) end refl u
 
-    pub ended-line : (end : ℕ) → v ≡ Ended end → Complete s at end (take (end - 1 - at) (drop at s)) × (overLong (take (end - 1 - at) (drop at s)) ≡ false)
-    ended-line end u = line-in false (completeLines (drop at s)) end refl u
+    pub ended-line : (end : ℕ) → v ≡ Ended end → Complete bytes at end (take (end - 1 - at) (drop at bytes)) × (overLong (take (end - 1 - at) (drop at bytes)) ≡ false)
+    ended-line end u = line-in false (completeLines (drop at bytes)) end refl u
 
-    pub over-long-line : (end : ℕ) → v ≡ OverLong end → Complete s at end (take (end - 1 - at) (drop at s)) × (overLong (take (end - 1 - at) (drop at s)) ≡ true)
-    over-long-line end u = line-in true (completeLines (drop at s)) end refl u
+    pub over-long-line : (end : ℕ) → v ≡ OverLong end → Complete bytes at end (take (end - 1 - at) (drop at bytes)) × (overLong (take (end - 1 - at) (drop at bytes)) ≡ true)
+    over-long-line end u = line-in true (completeLines (drop at bytes)) end refl u

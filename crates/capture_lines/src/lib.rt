@@ -1,30 +1,33 @@
 // The lines of a capture.
 use bits::choice::lesser;
 ghost use mathlib.Core.Path.{_≡_};
-ghost use Prim.Native.Nat.{_+_, _≤_};
+ghost use Prim.Native.Nat.{_≤_};
 ghost use lib.Dec.{ltb};
-ghost use lib.ListN.{length, drop};
+ghost use lib.ListN.{length};
 ghost use Rattle.capture_lines.specs.Lines.{lineLength, nextLine};
+ghost use Rattle.capture_lines.specs.Inner.Newlines.{newlineFrom};
 
 // The most bytes of a line, without its newline.
 pub const TEXT_MOST: usize = 8266;
 
-// A line, and the index after it: of the next line, or of the end of the bytes.
+// A line: end is the index of the next line, or the end of the bytes.
 pub enum NextLine {
     Ended { end: usize },
+    // It has more than TEXT_MOST bytes.
     OverLong { end: usize },
     // No newline follows.
     Unended { end: usize },
 }
 
-// Whether there is a newline. It looks at every byte, with no early answer, so that it looks at many at once.
-fn has_newline(s: &[u8]) -> bool
-    ensures { λ r. ⌜ r ≡ ltb (lineLength (now (s .entry))) (length (now (s .entry))) ⌝ }
+// Whether there is a newline. It looks at every byte, even behind a newline, so that it looks at many at once; found: whether one stands before
+// index i.
+fn has_newline(bytes: &[u8]) -> bool
+    ensures { λ r. ⌜ r ≡ ltb (lineLength (now (bytes .entry))) (length (now (bytes .entry))) ⌝ }
 {
     let mut found = false;
     let mut i: usize = 0;
-    while i < s.len() {
-        found = found | (s[i] == b'\n');
+    while i < bytes.len() {
+        found = found | (bytes[i] == b'\n');
         i += 1;
     }
     found
@@ -33,10 +36,12 @@ fn has_newline(s: &[u8]) -> bool
 // So many bytes are looked at together.
 const CHUNK: usize = 32;
 
-// An index from which on the first newline is found as from index from: whole chunks without a newline are skipped.
+// An index from which on the first newline is found as from index from. No newline stands from index from up to index i, where the next chunk
+// begins.
 fn skipped_from(bytes: &[u8], from: usize) -> usize
     requires { ⌜ from ≤ length (now bytes) ⌝ }
-    ensures { λ r. ⌜ (r ≤ length (now (bytes .entry))) × (r + lineLength (drop r (now (bytes .entry))) ≡ from + lineLength (drop from (now (bytes .entry)))) ⌝ }
+    ensures within { λ r. ⌜ r ≤ length (now (bytes .entry)) ⌝ }
+    ensures newline { λ r. ⌜ newlineFrom (now (bytes .entry)) r ≡ newlineFrom (now (bytes .entry)) from ⌝ }
 {
     let mut i = from;
     while CHUNK <= bytes.len() - i {
@@ -49,10 +54,10 @@ fn skipped_from(bytes: &[u8], from: usize) -> usize
     i
 }
 
-// The index of the first newline from index from on, or the end.
+// The index of the first newline from index from on, or the end. No newline stands from index from up to index i.
 fn newline_from(bytes: &[u8], from: usize) -> usize
     requires { ⌜ from ≤ length (now bytes) ⌝ }
-    ensures { λ r. ⌜ r ≡ from + lineLength (drop from (now (bytes .entry))) ⌝ }
+    ensures { λ r. ⌜ r ≡ newlineFrom (now (bytes .entry)) from ⌝ }
 {
     let mut i = skipped_from(bytes, from);
     while i < bytes.len() {
@@ -64,7 +69,7 @@ fn newline_from(bytes: &[u8], from: usize) -> usize
     i
 }
 
-// The line that begins at index place.
+// The line that begins at index place, for a caller that goes through lines one by one.
 pub fn next_line(bytes: &[u8], place: usize) -> NextLine
     ensures { λ r. ⌜ r ≡ nextLine (now (bytes .entry)) place ⌝ }
 {

@@ -10,10 +10,10 @@ use Rattle.capture_lines.proofs.has_newline.Statement.{statement}
 use Rattle.capture_lines.proofs.has_newline.Tie as tie
 
 abbrev Inv-loop : tie.InvT-loop
-Inv-loop s found₀ i₀ found i = (i ≤ length s) × (found || ltb (lineLength (drop i s)) (length (drop i s)) ≡ ltb (lineLength s) (length s))
+Inv-loop bytes found₀ i₀ found i = (i ≤ length bytes) × (found || ltb (lineLength (drop i bytes)) (length (drop i bytes)) ≡ ltb (lineLength bytes) (length bytes))
 
 abbrev μ-loop : tie.MeasureT-loop
-μ-loop s found₀ i₀ found i = length s - i
+μ-loop bytes found₀ i₀ found i = length bytes - i
 
 loop-holds : tie.Need-loop-holds Inv-loop μ-loop
 loop-holds c = search needs
