@@ -55,43 +55,43 @@ one-within m x (k ∷ ks) w e = by (eqb x k) refl e (one-within m x ks (and-righ
     by true q e f = omega (arith, eqb-true x k q, leb-true k m (and-left _ _ w))
     by false q e f = f e
 
-module _ (s : Settings) (l : settingsListed s ≡ true) where
-  mps-small : s .mps ≤ 4096
+module _ (settings : Settings) (l : settingsListed settings ≡ true) where
+  mps-small : settings .mps ≤ 4096
   unfolding settingsListed
-  mps-small = one-within 4096 (s .mps) sizes refl (and-left _ _ l)
+  mps-small = one-within 4096 (settings .mps) sizes refl (and-left _ _ l)
 
-  mrrs-small : s .mrrs ≤ 4096
+  mrrs-small : settings .mrrs ≤ 4096
   unfolding settingsListed
-  mrrs-small = one-within 4096 (s .mrrs) sizes refl (and-left _ _ (and-right (oneOf sizes (s .mps)) _ l))
+  mrrs-small = one-within 4096 (settings .mrrs) sizes refl (and-left _ _ (and-right (oneOf sizes (settings .mps)) _ l))
 
-  rcb-small : s .rcb ≤ 128
+  rcb-small : settings .rcb ≤ 128
   unfolding settingsListed
-  rcb-small = one-within 128 (s .rcb) boundaries refl (and-right (oneOf sizes (s .mrrs)) _ (and-right (oneOf sizes (s .mps)) _ l))
+  rcb-small = one-within 128 (settings .rcb) boundaries refl (and-right (oneOf sizes (settings .mrrs)) _ (and-right (oneOf sizes (settings .mps)) _ l))
 
 -- ---- line one
 
-module _ (s : List ℕ) (h : Header) where
-  pub header-text : headerLine s ≡ Good h → (settingsListed (h .settings) ≡ true) × (h .requester < 65536) × (s ≡ headerText h)
+module _ (text : List ℕ) (h : Header) where
+  pub header-text : headerLine text ≡ Good h → (settingsListed (h .settings) ≡ true) × (h .requester < 65536) × (text ≡ headerText h)
   unfolding headerLine headerGood
   header-text e =
-      let x : Header = record { settings = headerSettings s; requester = requesterField s .value } in
-      let f = picked Bad (Good x) (headerGood s) (Good h) e (λ (b : Bad ≡ Good h). let z : _≡_ {A = ℕ} 0 1 = cc in omega arith) in
+      let x : Header = record { settings = headerSettings text; requester = requesterField text .value } in
+      let f = picked Bad (Good x) (headerGood text) (Good h) e (λ (b : Bad ≡ Good h). let z : _≡_ {A = ℕ} 0 1 = cc in omega arith) in
       let q : x ≡ h = cc (f .1) in
       let m : most32 < 2 ^ 64 = omega arith in
-      let g = and-right (requesterField s .good) _ (f .0) in
-      let n : requesterField s .next ≡ length s = eqb-true (requesterField s .next) (length s) (and-left _ _ g) in
-      let z : drop (requesterField s .next) s ≡ [] = rw n (drop-length s) in
-      let req = hex-says s requesterKey (rcbField s) 4 (and-left _ _ (f .0)) in
-      let rcb = decimal-says s rcbKey (mrrsField s) most32 m (req .0) in
-      let mrrs = decimal-says s mrrsKey (mpsField s) most32 m (rcb .0) in
-      let mps = decimal-says s mpsKey lineStart most32 m (mrrs .0) in
-      let t : s ≡ headerText x =
+      let g = and-right (requesterField text .good) _ (f .0) in
+      let n : requesterField text .next ≡ length text = eqb-true (requesterField text .next) (length text) (and-left _ _ g) in
+      let z : drop (requesterField text .next) text ≡ [] = rw n (drop-length text) in
+      let req = hex-says text requesterKey (rcbField text) 4 (and-left _ _ (f .0)) in
+      let rcb = decimal-says text rcbKey (mrrsField text) most32 m (req .0) in
+      let mrrs = decimal-says text mrrsKey (mpsField text) most32 m (rcb .0) in
+      let mps = decimal-says text mpsKey lineStart most32 m (mrrs .0) in
+      let t : text ≡ headerText x =
       mps .1 .0
       ∙ rw (mrrs .1 .0, rcb .1 .0, req .1 .0, z)
       (sym (join-eight mpsKey (decimalText (x .settings .mps)) mrrsKey (decimalText (x .settings .mrrs)) rcbKey (decimalText (x .settings .rcb)) requesterKey (digits 16 4 (x .requester)))) in
-      rw (← q) (and-right (eqb (requesterField s .next) (length s)) _ g, omega (arith, hex-after-lt s requesterKey (rcbField s) (requesterField s) 4 refl), t)
+      rw (← q) (and-right (eqb (requesterField text .next) (length text)) _ g, omega (arith, hex-after-lt text requesterKey (rcbField text) (requesterField text) 4 refl), t)
 
-  pub text-header : settingsListed (h .settings) ≡ true → h .requester < 65536 → s ≡ headerText h → headerLine s ≡ Good h
+  pub text-header : settingsListed (h .settings) ≡ true → h .requester < 65536 → text ≡ headerText h → headerLine text ≡ Good h
   unfolding headerLine headerGood
   text-header l r e =
       let x : Settings = h .settings in
@@ -102,17 +102,17 @@ module _ (s : List ℕ) (h : Header) where
       let last : List ℕ = requesterKey ++ (d ++ []) in
       let third : List ℕ = rcbKey ++ (c ++ last) in
       let second : List ℕ = mrrsKey ++ (b ++ third) in
-      let whole : s ≡ mpsKey ++ (a ++ second) = e ∙ join-eight mpsKey a mrrsKey b rcbKey c requesterKey d in
-      let mps = decimal-stands s mpsKey lineStart most32 (x .mps) second (omega (arith, mps-small x l)) (omega (arith, mps-small x l)) (word-none _) (refl, (zero-le, whole)) in
-      let mrrs = decimal-stands s mrrsKey (mpsField s) most32 (x .mrrs) third (omega (arith, mrrs-small x l)) (omega (arith, mrrs-small x l)) (word-none _) (mps .0) in
-      let rcb = decimal-stands s rcbKey (mrrsField s) most32 (x .rcb) last (omega (arith, rcb-small x l)) (omega (arith, rcb-small x l)) (word-none _) (mrrs .0) in
-      let req = hex-stands s requesterKey (rcbField s) 4 (h .requester) [] (omega arith) (omega arith) (omega (arith, r)) word-end (rcb .0) in
-      let n : requesterField s .next ≡ length s = omega (arith, req .0 .1 .0, length-drop (requesterField s .next) s, ap (λ (t : List ℕ). length t) (req .0 .1 .1)) in
+      let spelled : text ≡ mpsKey ++ (a ++ second) = e ∙ join-eight mpsKey a mrrsKey b rcbKey c requesterKey d in
+      let mps = decimal-stands text mpsKey lineStart most32 (x .mps) second (omega (arith, mps-small x l)) (omega (arith, mps-small x l)) (word-none _) (refl, (zero-le, spelled)) in
+      let mrrs = decimal-stands text mrrsKey (mpsField text) most32 (x .mrrs) third (omega (arith, mrrs-small x l)) (omega (arith, mrrs-small x l)) (word-none _) (mps .0) in
+      let rcb = decimal-stands text rcbKey (mrrsField text) most32 (x .rcb) last (omega (arith, rcb-small x l)) (omega (arith, rcb-small x l)) (word-none _) (mrrs .0) in
+      let req = hex-stands text requesterKey (rcbField text) 4 (h .requester) [] (omega arith) (omega arith) (omega (arith, r)) word-end (rcb .0) in
+      let n : requesterField text .next ≡ length text = omega (arith, req .0 .1 .0, length-drop (requesterField text .next) text, ap (λ (t : List ℕ). length t) (req .0 .1 .1)) in
       let k : settingsListed (record { mps = x .mps; mrrs = x .mrrs; rcb = x .rcb }) ≡ true = l in
-      rw (req .0 .0, eq-eqb (requesterField s .next) (length s) n, req .1, rcb .1, mrrs .1, mps .1, k)
+      rw (req .0 .0, eq-eqb (requesterField text .next) (length text) n, req .1, rcb .1, mrrs .1, mps .1, k)
 
 pub header-exact : HeaderExact
-header-exact s h = (header-text s h, λ w. text-header s h (w .0) (w .1) (w .2))
+header-exact text h = (header-text text h, λ w. text-header text h (w .0) (w .1) (w .2))
 
 -- ---- the lines after it
 
@@ -128,59 +128,59 @@ counted-is f (some bytes) p e =
     let q : x ≡ p = cc (g .1) in
     rw (← q) (refl, eqb-true (length bytes) (f .size) (g .0), refl, refl)
 
-module _ (s : List ℕ) (at : Field) where
-  direction-by : (t : Bool) → t ≡ keyAfter s at rxKey .good → pick t (keyAfter s at rxKey) (keyAfter s at txKey) .good ≡ true
-      → (at .good ≡ true) × (drop (at .next) s ≡ directionKey (pick t Rx Tx) ++ drop (pick t (keyAfter s at rxKey) (keyAfter s at txKey) .next) s)
-  direction-by true e g = key-says s rxKey at g
-  direction-by false e g = key-says s txKey at g
+module _ (text : List ℕ) (at : Field) where
+  direction-by : (t : Bool) → t ≡ keyAfter text at rxKey .good → pick t (keyAfter text at rxKey) (keyAfter text at txKey) .good ≡ true
+      → (at .good ≡ true) × (drop (at .next) text ≡ directionKey (pick t Rx Tx) ++ drop (pick t (keyAfter text at rxKey) (keyAfter text at txKey) .next) text)
+  direction-by true e g = key-says text rxKey at g
+  direction-by false e g = key-says text txKey at g
 
-  direction-says : directionAfter s at .field .good ≡ true → (at .good ≡ true) × (drop (at .next) s ≡ directionKey (directionAfter s at .direction) ++ drop (directionAfter s at .field .next) s)
+  direction-says : directionAfter text at .field .good ≡ true → (at .good ≡ true) × (drop (at .next) text ≡ directionKey (directionAfter text at .direction) ++ drop (directionAfter text at .field .next) text)
   unfolding directionAfter
-  direction-says g = direction-by (keyAfter s at rxKey .good) refl g
+  direction-says g = direction-by (keyAfter text at rxKey .good) refl g
 
-  rx-stands : (t : Bool) (rest : List ℕ) → t ≡ true → Stands s (keyAfter s at rxKey) rest → Stands s (pick t (keyAfter s at rxKey) (keyAfter s at txKey)) rest × (pick t Rx Tx ≡ Rx)
+  rx-stands : (t : Bool) (rest : List ℕ) → t ≡ true → Stands text (keyAfter text at rxKey) rest → Stands text (pick t (keyAfter text at rxKey) (keyAfter text at txKey)) rest × (pick t Rx Tx ≡ Rx)
   rx-stands true rest e k = (k, refl)
   rx-stands false rest e k = absurd (false≢true e)
 
-  tx-stands : (t : Bool) (rest : List ℕ) → t ≡ false → Stands s (keyAfter s at txKey) rest → Stands s (pick t (keyAfter s at rxKey) (keyAfter s at txKey)) rest × (pick t Rx Tx ≡ Tx)
+  tx-stands : (t : Bool) (rest : List ℕ) → t ≡ false → Stands text (keyAfter text at txKey) rest → Stands text (pick t (keyAfter text at rxKey) (keyAfter text at txKey)) rest × (pick t Rx Tx ≡ Tx)
   tx-stands true rest e k = absurd (false≢true (sym e))
   tx-stands false rest e k = (k, refl)
 
-  direction-stands : (d : Direction) (rest : List ℕ) → Stands s at (directionKey d ++ rest) → Stands s (directionAfter s at .field) rest × (directionAfter s at .direction ≡ d)
+  direction-stands : (d : Direction) (rest : List ℕ) → Stands text at (directionKey d ++ rest) → Stands text (directionAfter text at .field) rest × (directionAfter text at .direction ≡ d)
   unfolding directionAfter beginsWith
   direction-stands Rx rest st =
-      let k = key-stands s rxKey at rest st in
-      rx-stands (keyAfter s at rxKey .good) rest (k .0) k
-  direction-stands Tx rest st = tx-stands (keyAfter s at rxKey .good) rest (key-absent s rxKey at (txKey ++ rest) st refl) (key-stands s txKey at rest st)
+      let k = key-stands text rxKey at rest st in
+      rx-stands (keyAfter text at rxKey .good) rest (k .0) k
+  direction-stands Tx rest st = tx-stands (keyAfter text at rxKey .good) rest (key-absent text rxKey at (txKey ++ rest) st refl) (key-stands text txKey at rest st)
 
 word-direction : (d : Direction) (rest : List ℕ) → wordLength (directionKey d ++ rest) ≡ 0
 word-direction Rx rest = word-none _
 word-direction Tx rest = word-none _
 
-module _ (s : List ℕ) (p : PacketText) where
-  pub packet-text : packetLine s ≡ some p → (p .at ≤ 4294967295) × EachByte (p .bytes) × (length (p .bytes) ≤ 4294967295) × (s ≡ packetText p)
+module _ (text : List ℕ) (p : PacketText) where
+  pub packet-text : packetLine text ≡ some p → (p .at ≤ most32) × EachByte (p .bytes) × (length (p .bytes) ≤ most32) × (text ≡ packetText p)
   unfolding packetLine frontOf
   packet-text e =
-      let o = bytesSpelled (drop (frontOf s .digits) s) in
-      let f = picked none (counted (frontOf s) o) (frontOf s .good) (some p) e (some-none p) in
-      let c = counted-is (frontOf s) o p (f .1) in
-      let b = bytes-is (drop (digitsField s .next) s) (p .bytes) (c .0) in
+      let o = bytesSpelled (drop (frontOf text .digits) text) in
+      let f = picked none (counted (frontOf text) o) (frontOf text .good) (some p) e (some-none p) in
+      let c = counted-is (frontOf text) o p (f .1) in
+      let b = bytes-is (drop (digitsField text .next) text) (p .bytes) (c .0) in
       let m : most32 < 2 ^ 64 = omega arith in
-      let hex = key-says s packetKey (lengthField s) (f .0) in
-      let size = decimal-says s lengthKey (directionOf s .field) most32 m (hex .0) in
-      let dir = direction-says s (atField s) (size .0) in
-      let at = decimal-says s atKey lineStart most32 m (dir .0) in
-      let t : s ≡ packetText p =
+      let hex = key-says text packetKey (lengthField text) (f .0) in
+      let size = decimal-says text lengthKey (directionOf text .field) most32 m (hex .0) in
+      let dir = direction-says text (atField text) (size .0) in
+      let at = decimal-says text atKey lineStart most32 m (dir .0) in
+      let t : text ≡ packetText p =
       at .1 .0
       ∙ rw (dir .1, size .1 .0, hex .1, b .0, ← c .1, ← c .3, ← c .2)
       (sym (join-seven atKey (decimalText (p .at)) (directionKey (p .direction)) lengthKey (decimalText (length (p .bytes))) packetKey (hexText (p .bytes)))) in (
-        omega (arith, c .2, decimal-after-le s atKey lineStart (atField s) most32 refl),
+        omega (arith, c .2, decimal-after-le text atKey lineStart (atField text) most32 refl),
         b .1,
-        omega (arith, c .1, decimal-after-le s lengthKey (directionOf s .field) (lengthField s) most32 refl),
+        omega (arith, c .1, decimal-after-le text lengthKey (directionOf text .field) (lengthField text) most32 refl),
         t,
       )
 
-  pub text-packet : p .at ≤ 4294967295 → EachByte (p .bytes) → length (p .bytes) ≤ 4294967295 → s ≡ packetText p → packetLine s ≡ some p
+  pub text-packet : p .at ≤ most32 → EachByte (p .bytes) → length (p .bytes) ≤ most32 → text ≡ packetText p → packetLine text ≡ some p
   unfolding packetLine frontOf
   text-packet l small k e =
       let a : List ℕ = decimalText (p .at) in
@@ -190,12 +190,12 @@ module _ (s : List ℕ) (p : PacketText) where
       let last : List ℕ = packetKey ++ d in
       let third : List ℕ = lengthKey ++ (c ++ last) in
       let second : List ℕ = b ++ third in
-      let whole : s ≡ atKey ++ (a ++ second) = e ∙ join-seven atKey a b lengthKey c packetKey d in
-      let at = decimal-stands s atKey lineStart most32 (p .at) second (omega (arith, l)) (omega (arith, l)) (word-direction (p .direction) third) (refl, (zero-le, whole)) in
-      let dir = direction-stands s (atField s) (p .direction) third (at .0) in
-      let size = decimal-stands s lengthKey (directionOf s .field) most32 (length (p .bytes)) last (omega (arith, k)) (omega (arith, k)) (word-none _) (dir .0) in
-      let hex = key-stands s packetKey (lengthField s) d (size .0) in
-      rw (hex .0, hex .1 .1, bytes-trip (p .bytes) small, eq-eqb (length (p .bytes)) (lengthField s .value) (sym (size .1)), dir .1, at .1)
+      let spelled : text ≡ atKey ++ (a ++ second) = e ∙ join-seven atKey a b lengthKey c packetKey d in
+      let at = decimal-stands text atKey lineStart most32 (p .at) second (omega (arith, l)) (omega (arith, l)) (word-direction (p .direction) third) (refl, (zero-le, spelled)) in
+      let dir = direction-stands text (atField text) (p .direction) third (at .0) in
+      let size = decimal-stands text lengthKey (directionOf text .field) most32 (length (p .bytes)) last (omega (arith, k)) (omega (arith, k)) (word-none _) (dir .0) in
+      let hex = key-stands text packetKey (lengthField text) d (size .0) in
+      rw (hex .0, hex .1 .1, bytes-trip (p .bytes) small, eq-eqb (length (p .bytes)) (lengthField text .value) (sym (size .1)), dir .1, at .1)
 
 pub packet-exact : PacketExact
-packet-exact s p = (packet-text s p, λ w. text-packet s p (w .0) (w .1) (w .2) (w .3))
+packet-exact text p = (packet-text text p, λ w. text-packet text p (w .0) (w .1) (w .2) (w .3))

@@ -21,47 +21,45 @@ use Rattle.text.specs.declared.hex.Spelled.the-variants.{Bytes, Bad}
 use Rattle.text.proofs.HexLaws.{length-pairs, front-length, spells-odd, spells-bad, spells-good}
 use Rattle.capture.specs.Keys.{atKey, rxKey, txKey, lengthKey, packetKey}
 use Rattle.capture.specs.Headers.{most32}
-use Rattle.capture.specs.PacketLines.{directionAfter, frontOf, PacketText, counted, packetLine, spelledNumber, unlaidNumber, lineAnswer, packetOver}
+use Rattle.capture.specs.PacketLines.{directionAfter, frontOf, PacketText, counted, packetLine, entryAnswer, packetOver}
+use Rattle.capture.specs.Inner.Unlaid.{unlaidAnswer}
 use Rattle.capture.specs.declared.packet_line.Direction.the-variants.{Rx, Tx}
 use Rattle.capture.specs.declared.packet_line.DirectionField.{DirectionField}
 use Rattle.capture.specs.declared.packet_line.Front.{Front}
 use Rattle.capture.specs.declared.packet_line.PacketLine.{PacketLine}
-use Rattle.capture.specs.declared.packet_line.PacketLine.the-variants.{Packet, Refused}
+use Rattle.capture.specs.declared.packet_line.PacketLine.the-variants.{Packet, Bad as BadLine, Refused}
 
 -- ---- the front
 
-module _ (s : List ℕ) (at rx : Field) (e : rx ≡ keyAfter s at rxKey) where
-  pub direction-rx : rx .good ≡ true → record { field = rx; direction = Rx } ≡ directionAfter s at
+module _ (text : List ℕ) (at rx : Field) (e : rx ≡ keyAfter text at rxKey) where
+  pub direction-rx : rx .good ≡ true → record { field = rx; direction = Rx } ≡ directionAfter text at
   unfolding directionAfter
   direction-rx h = rw (← e, h)
 
-  pub direction-tx : (tx : Field) → rx .good ≡ false → tx ≡ keyAfter s at txKey → record { field = tx; direction = Tx } ≡ directionAfter s at
+  pub direction-tx : (tx : Field) → rx .good ≡ false → tx ≡ keyAfter text at txKey → record { field = tx; direction = Tx } ≡ directionAfter text at
   unfolding directionAfter
   direction-tx tx h f = rw (← e, h, f)
 
 pub ruleset direction-laws = (direction-rx, direction-tx)
 
-pub front-is : (s : List ℕ) (start at size digits : Field) (found : DirectionField) → start ≡ lineStart → at ≡ decimalAfter s start atKey most32
-    → found ≡ directionAfter s at → size ≡ decimalAfter s (found .field) lengthKey most32 → digits ≡ keyAfter s size packetKey
-    → record { good = digits .good; at = at .value; direction = found .direction; size = size .value; digits = digits .next } ≡ frontOf s
+pub front-is : (text : List ℕ) (start at size digits : Field) (found : DirectionField) → start ≡ lineStart → at ≡ decimalAfter text start atKey most32
+    → found ≡ directionAfter text at → size ≡ decimalAfter text (found .field) lengthKey most32 → digits ≡ keyAfter text size packetKey
+    → record { good = digits .good; at = at .value; direction = found .direction; size = size .value; digits = digits .next } ≡ frontOf text
 unfolding frontOf
-front-is s start at size digits found a b c d e = rw (← a, ← b, ← c, ← d, ← e)
+front-is text start at size digits found a b c d e = rw (← a, ← b, ← c, ← d, ← e)
 
 -- ---- a packet for which there is no room
 
-module _ (s : List ℕ) where
-  pub unlaid-odd : (length s % 2 ≡ 0 → ⊥) → 13 ≡ unlaidNumber s
-  unfolding unlaidNumber
-  unlaid-odd h = rw (spells-odd s h)
+module _ (digits : List ℕ) where
+  pub unlaid-odd : (length digits % 2 ≡ 0 → ⊥) → BadLine ≡ unlaidAnswer (bytesSpelled digits)
+  unlaid-odd h = rw (spells-odd digits h)
 
-  module _ (r : Bool) (e : r ≡ allDigits 16 s) where
-    pub unlaid-bad : not r ≡ true → 13 ≡ unlaidNumber s
-    unfolding unlaidNumber
-    unlaid-bad h = rw (spells-bad s r e h)
+  module _ (r : Bool) (e : r ≡ allDigits 16 digits) where
+    pub unlaid-bad : not r ≡ true → BadLine ≡ unlaidAnswer (bytesSpelled digits)
+    unlaid-bad h = rw (spells-bad digits r e h)
 
-    pub unlaid-good : length s % 2 ≡ 0 → not r ≡ false → 12 ≡ unlaidNumber s
-    unfolding unlaidNumber
-    unlaid-good z h = rw (spells-good s r e z h)
+    pub unlaid-good : length digits % 2 ≡ 0 → not r ≡ false → Refused 12 ≡ unlaidAnswer (bytesSpelled digits)
+    unlaid-good z h = rw (spells-good digits r e z h)
 
 pub ruleset unlaid-laws = (unlaid-odd, unlaid-bad, unlaid-good)
 
@@ -90,35 +88,35 @@ bytes-good n e = let z : _≡_ {A = ℕ} 0 1 = cc in omega arith
 bytes-is : (m n : ℕ) → Bytes m ≡ Bytes n → m ≡ n
 bytes-is m n e = cc
 
-module _ (most : ℕ) (s out : List ℕ) (f : Front) (e : f ≡ frontOf s) where
-  bad-line : not (f .good) ≡ true → packetLine s ≡ none
+module _ (most : ℕ) (text out : List ℕ) (f : Front) (e : f ≡ frontOf text) where
+  bad-line : not (f .good) ≡ true → packetLine text ≡ none
   unfolding packetLine
   bad-line h = rw (← e, not-true (f .good) h)
 
-  pub bad-answer : (r : PacketLine) → not (f .good) ≡ true → r ≡ Refused (record { number = 13 }) → r ≡ lineAnswer most (packetLine s) out
-  bad-answer r h q = rw (bad-line h) q
+  pub bad-answer : not (f .good) ≡ true → BadLine ≡ entryAnswer most (packetLine text) out
+  bad-answer h = rw (bad-line h)
 
-  pub bad-over : not (f .good) ≡ true → out ≡ packetOver most (packetLine s) out
+  pub bad-over : not (f .good) ≡ true → out ≡ packetOver most (packetLine text) out
   bad-over h = rw (bad-line h)
 
-  module _ (g : not (f .good) ≡ false) (d : List ℕ) (p : d ≡ take (length s - f .digits) (drop (f .digits) s)) where
-    good-line : packetLine s ≡ counted f (bytesSpelled d)
+  module _ (g : not (f .good) ≡ false) (d : List ℕ) (p : d ≡ take (length text - f .digits) (drop (f .digits) text)) where
+    good-line : packetLine text ≡ counted f (bytesSpelled d)
     unfolding packetLine
-    good-line = rw (← e, not-false (f .good) g, p, take-all (length s - f .digits) (drop (f .digits) s) (le-of-eq (length-drop (f .digits) s)))
+    good-line = rw (← e, not-false (f .good) g, p, take-all (length text - f .digits) (drop (f .digits) text) (le-of-eq (length-drop (f .digits) text)))
 
     module _ (h : length d / 2 ≡ f .size → ⊥) where
-      other-line : packetLine s ≡ none
+      other-line : packetLine text ≡ none
       unfolding bytesSpelled
       other-line = good-line ∙ uncounted (spelt d) f d (ne-eqb (length (pairs d)) (f .size) (λ (q : length (pairs d) ≡ f .size). h (length-pairs d ∙ q)))
 
-      pub other-answer : (r : PacketLine) → r ≡ Refused (record { number = 13 }) → r ≡ lineAnswer most (packetLine s) out
-      other-answer r q = rw other-line q
+      pub other-answer : BadLine ≡ entryAnswer most (packetLine text) out
+      other-answer = rw other-line
 
-      pub other-over : out ≡ packetOver most (packetLine s) out
+      pub other-over : out ≡ packetOver most (packetLine text) out
       other-over = rw other-line
 
     module _ (h : length d / 2 ≡ f .size) where
-      counted-line : packetLine s ≡ pick (spelt d) (some (held f d)) none
+      counted-line : packetLine text ≡ pick (spelt d) (some (held f d)) none
       unfolding bytesSpelled
       counted-line = good-line ∙ counted-so (spelt d) f d (eq-eqb (length (pairs d)) (f .size) (sym (length-pairs d) ∙ h))
 
@@ -126,15 +124,15 @@ module _ (most : ℕ) (s out : List ℕ) (f : Front) (e : f ≡ frontOf s) where
         short : fits 0 (take most (pairs d)) out ≡ false
         short = lt-leb (0 + length (take most (pairs d))) (length out) (omega (arith, front-length most d))
 
-        pub short-answer : (r : PacketLine) (n : ℕ) → n ≡ unlaidNumber d → r ≡ Refused (record { number = n }) → r ≡ lineAnswer most (packetLine s) out
-        unfolding unlaidNumber bytesSpelled
-        short-answer r n m q = q ∙ rw (m, counted-line) (by (spelt d))
+        pub short-answer : (r : PacketLine) → r ≡ unlaidAnswer (bytesSpelled d) → r ≡ entryAnswer most (packetLine text) out
+        unfolding bytesSpelled
+        short-answer r q = q ∙ rw counted-line (by (spelt d))
           where
-            by : (t : Bool) → Refused (record { number = spelledNumber (pick t (some (pairs d)) none) }) ≡ lineAnswer most (pick t (some (held f d)) none) out
+            by : (t : Bool) → unlaidAnswer (pick t (some (pairs d)) none) ≡ entryAnswer most (pick t (some (held f d)) none) out
             by true = rw short
             by false = refl
 
-        pub short-over : out ≡ packetOver most (packetLine s) out
+        pub short-over : out ≡ packetOver most (packetLine text) out
         unfolding laid
         short-over = rw counted-line (by (spelt d))
           where
@@ -142,7 +140,7 @@ module _ (most : ℕ) (s out : List ℕ) (f : Front) (e : f ≡ frontOf s) where
             by true = rw short
             by false = refl
 
-      pub last-over : (last : List ℕ) → last ≡ frontOver most (bytesSpelled d) out → last ≡ packetOver most (packetLine s) out
+      pub last-over : (last : List ℕ) → last ≡ frontOver most (bytesSpelled d) out → last ≡ packetOver most (packetLine text) out
       unfolding bytesSpelled frontOver
       last-over last q = q ∙ rw counted-line (by (spelt d))
         where
@@ -154,19 +152,19 @@ module _ (most : ℕ) (s out : List ℕ) (f : Front) (e : f ≡ frontOf s) where
         room : fits 0 (take most (pairs d)) out ≡ true
         room = le-leb (0 + length (take most (pairs d))) (length out) (omega (arith, front-length most d))
 
-        pub last-bad : (r : PacketLine) → a ≡ Bad → r ≡ Refused (record { number = 13 }) → r ≡ lineAnswer most (packetLine s) out
+        pub last-bad : a ≡ Bad → BadLine ≡ entryAnswer most (packetLine text) out
         unfolding bytesSpelled frontAnswer
-        last-bad r b q = q ∙ rw counted-line (by (spelt d) (sym m ∙ b))
+        last-bad b = rw counted-line (by (spelt d) (sym m ∙ b))
           where
-            by : (t : Bool) → frontAnswer most (pick t (some (pairs d)) none) out ≡ Bad → Refused (record { number = 13 }) ≡ lineAnswer most (pick t (some (held f d)) none) out
+            by : (t : Bool) → frontAnswer most (pick t (some (pairs d)) none) out ≡ Bad → BadLine ≡ entryAnswer most (pick t (some (held f d)) none) out
             by true h = absurd (bytes-good (length (pairs d)) (rw room at h))
             by false h = refl
 
-        pub last-packet : (n : ℕ) → a ≡ Bytes n → Packet (record { at = f .at; direction = f .direction; size = n }) ≡ lineAnswer most (packetLine s) out
+        pub last-packet : (n : ℕ) → a ≡ Bytes n → Packet (record { at = f .at; direction = f .direction; size = n }) ≡ entryAnswer most (packetLine text) out
         unfolding bytesSpelled frontAnswer
         last-packet n b = rw counted-line (by (spelt d) (sym m ∙ b))
           where
-            by : (t : Bool) → frontAnswer most (pick t (some (pairs d)) none) out ≡ Bytes n → Packet (record { at = f .at; direction = f .direction; size = n }) ≡ lineAnswer most (pick t (some (held f d)) none) out
+            by : (t : Bool) → frontAnswer most (pick t (some (pairs d)) none) out ≡ Bytes n → Packet (record { at = f .at; direction = f .direction; size = n }) ≡ entryAnswer most (pick t (some (held f d)) none) out
             by true h = rw (room, bytes-is (length (pairs d)) n (rw room at h))
             by false h = absurd (bytes-good n (sym h))
 

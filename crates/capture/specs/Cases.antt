@@ -1,32 +1,17 @@
 -- Worked cases of the lines, computed.
-use Prim.Native.Nat.{ℕ}
 use Prim.Native.String.{String}
 use mathlib.Core.Path.{_≡_, refl}
-use mathlib.Core.Bool.{true, false}
-use mathlib.Core.List.{List, [], _∷_, _++_, map}
+use mathlib.Core.List.{[], _∷_, map}
 use mathlib.Core.Option.{Option, some, none}
-use lib.ListN.{replicate}
-use Rattle.byte_enables.specs.Enables.{enablesAllowed}
-use Rattle.text.specs.Digit.{allDigits, hexValue, hexDigit}
-use Rattle.text.specs.Number.{valueFrom, plain, plainly, empty, numberIn, digits, countTo}
+use Rattle.text.specs.Digit.{allDigits, hexValue}
+use Rattle.text.specs.Number.{valueFrom, plain, plainly, empty, numberIn}
 use Rattle.text.specs.Hex.{hexNumber, pairs, bytesSpelled}
 use Rattle.text.specs.Words.{wordLength, wordEnd, beginsWith, startsWith, valueAt}
 use Rattle.text.specs.Fields.{decimalAfter, hexAfter, keyAfter}
-use Rattle.tlp.specs.Rows.{first}
-use Rattle.tlp.specs.Settings.{settingsListed}
-use Rattle.tlp.specs.PacketTypes.{typeAt}
-use Rattle.tlp.specs.Packets.{typeOf, accessOf}
-use Rattle.tlp.specs.Sizes.{orMost, lengthAt, digestAt, dataBytes, digestBytes, bytesCalled}
-use Rattle.tlp.specs.Contents.{notPlain, plainBad, enablesBad, pageBad}
-use Rattle.tlp_read.specs.Fields.{attributesAt, digestWord, requestAt, configAt, messageAt, completionAt, implicitAt, messageRouteAt, routeAt, kindAt, packetAt}
-use Rattle.tlp_read.specs.Read.{hintOrAddressTypeSet, routingBad, formBad, readPacket}
-use Rattle.capture_print.specs.Words.{newline}
 use Rattle.text.specs.Letters.{lettersFrom, letters}
-use Rattle.capture_lines.specs.Lines.{completeLines, lineWith, unended, tailWith, overLong}
+use Rattle.tlp.specs.Settings.{settingsListed}
 use Rattle.capture.specs.Headers.{headerGood, headerLine}
 use Rattle.capture.specs.PacketLines.{PacketText, directionAfter, frontOf, packetLine}
-use Rattle.capture_print.specs.Outputs.{codeLine, packetOutput, outputLine, totalsLine}
-use Rattle.capture.specs.Decode.{headerRead, lineRead, tailDecoded, linesDecoded, textDecoded, decodeText}
 use Rattle.capture.specs.declared.header.HeaderLine.{HeaderLine}
 use Rattle.capture.specs.declared.header.HeaderLine.the-variants.{Good, Bad}
 use Rattle.capture.specs.declared.packet_line.Direction.the-variants.{Rx, Tx}
@@ -44,9 +29,8 @@ pub headers-good : map headerOf ("mps=128 mrrs=512 rcb=64 req=0100" ∷ "mps=409
 unfolding headerLine headerGood decimalAfter hexAfter valueAt startsWith beginsWith wordEnd wordLength plainly plain numberIn hexNumber empty allDigits hexValue valueFrom settingsListed lettersFrom
 headers-good = refl
 
--- Numbers: a leading zero; one that is not listed; one that 32 bits would take for 128; none.
--- req: three digits; five; a capital. Between: two spaces; a space at the end; one at the start; another order; a key twice.
--- Nothing at all.
+-- Numbers: a leading zero; one that is not listed; one that 32 bits would take for 128; none. req: three digits; five;
+-- a capital. Between: two spaces; a space at the end; one at the start; another order; a key twice. Nothing at all.
 pub headers-bad : map headerOf
     ("mps=0128 mrrs=512 rcb=64 req=0100"
     ∷ "mps=100 mrrs=512 rcb=64 req=0100"
@@ -80,9 +64,9 @@ pub packets-good : map packetOf ("at=1 dir=tx len=12 tlp=00000001010005000000100
 unfolding packetLine frontOf directionAfter decimalAfter keyAfter valueAt startsWith beginsWith wordEnd wordLength plainly plain numberIn empty allDigits hexValue valueFrom bytesSpelled pairs lettersFrom
 packets-good = refl
 
--- at: one too large; a leading zero. dir: neither of the two; longer. len: one too large; one too small; a leading zero.
--- Digits: an odd number, twice; a capital; text after them; a space after them. Between: two spaces; another order; no digits' key.
--- Nothing at all.
+-- at: one too large; a leading zero. dir: neither of the two; longer. len: one too large; one too small; a leading
+-- zero. Digits: an odd number, twice; a capital; text after them; a space after them. Between: two spaces; another
+-- order; no digits' key. Nothing at all.
 pub packets-bad : map packetOf
     ("at=4294967296 dir=rx len=1 tlp=f9"
     ∷ "at=01 dir=rx len=1 tlp=f9"
@@ -104,48 +88,3 @@ pub packets-bad : map packetOf
     ≡ none ∷ none ∷ none ∷ none ∷ none ∷ none ∷ none ∷ none ∷ none ∷ none ∷ none ∷ none ∷ none ∷ none ∷ none ∷ none ∷ []
 unfolding packetLine frontOf directionAfter decimalAfter keyAfter valueAt startsWith beginsWith wordEnd wordLength plainly plain numberIn empty allDigits hexValue valueFrom bytesSpelled pairs lettersFrom
 packets-bad = refl
-
--- ---- whole inputs
-
--- lines, each ended by a newline
-abbrev ended : List String → List ℕ
-ended [] = []
-ended (text ∷ texts) = letters text ++ (newline ++ ended texts)
-
-abbrev header : String
-header = "mps=128 mrrs=512 rcb=64 req=0100"
-
--- Document 01's whole case. Then: a header alone; an empty line; no bytes; a last line without newline; nothing at all; a first line without
--- newline; a bad first line.
-pub inputs-decoded : map decodeText
-    (ended
-    (header
-    ∷ "at=1 dir=tx len=12 tlp=000000010100050000001000"
-    ∷ "at=2 dir=rx len=16 tlp=4a000001020000010100050000000000"
-    ∷ "at=3 dir=rx len=12 tlp=000000020100050000001000"
-    ∷ "at=4 dir=rx len=4 tlp=00000001"
-    ∷ [])
-    ∷ ended (header ∷ [])
-    ∷ ended (header ∷ "" ∷ [])
-    ∷ ended (header ∷ "at=1 dir=tx len=0 tlp=" ∷ [])
-    ∷ (ended (header ∷ []) ++ letters "at=1 dir=tx len=0 tlp=")
-    ∷ []
-    ∷ letters header
-    ∷ ended ("mps=100 mrrs=512 rcb=64 req=0100" ∷ "at=1 dir=tx len=0 tlp=" ∷ [])
-    ∷ [])
-    ≡ ended ("code=0 kind=MRd32 tag=5 dw=1" ∷ "code=0 kind=CplD tag=5 dw=1" ∷ "code=7" ∷ "code=1" ∷ "lines=4 refused=2" ∷ [])
-    ∷ ended ("lines=0 refused=0" ∷ [])
-    ∷ ended ("code=13" ∷ "lines=1 refused=1" ∷ [])
-    ∷ ended ("code=1" ∷ "lines=1 refused=1" ∷ [])
-    ∷ ended ("code=13" ∷ "lines=1 refused=1" ∷ [])
-    ∷ ended ("code=11" ∷ [])
-    ∷ ended ("code=11" ∷ [])
-    ∷ ended ("code=11" ∷ [])
-    ∷ []
-unfolding decodeText textDecoded headerRead linesDecoded tailDecoded lineRead completeLines lineWith unended tailWith overLong codeLine packetOutput outputLine totalsLine headerLine headerGood packetLine frontOf directionAfter decimalAfter hexAfter keyAfter valueAt startsWith beginsWith wordEnd wordLength plainly plain numberIn hexNumber empty allDigits hexValue valueFrom bytesSpelled pairs digits countTo hexDigit settingsListed readPacket first typeAt typeOf accessOf enablesAllowed orMost lengthAt digestAt dataBytes digestBytes bytesCalled notPlain plainBad enablesBad pageBad attributesAt digestWord requestAt configAt messageAt completionAt implicitAt messageRouteAt routeAt kindAt packetAt hintOrAddressTypeSet routingBad formBad lettersFrom
-inputs-decoded = refl
-
--- "at most 8,267 bytes with its newline"
-pub longest : map (λ (n : ℕ). overLong (replicate n 48)) (8266 ∷ 8267 ∷ []) ≡ false ∷ true ∷ []
-unfolding overLong
-longest = refl

@@ -2,5 +2,5 @@ pub mod Keys
 pub mod Headers
 pub mod PacketLines
 pub mod Grammar
-pub mod Decode
+pub mod Inner
 pub mod Cases

@@ -1,6 +1,7 @@
--- "at= dir= len= tlp= lines": "at is up to 4294967295; dir is rx or tx; len is the byte count, from 0; hex is lower case".
+-- Document 01, Captures: "`at= dir= len= tlp=` lines"; "at is up to 4294967295; dir is rx or tx; len is the byte count,
+-- from 0; hex is lower case". What a reader must believe: packetLine, or, of which Grammar says that it is the same,
+-- packetText there; then entryAnswer and packetOver, what packet_line answers and leaves.
 use Prim.Native.Nat.{ℕ}
-use mathlib.Core.Bool.{Bool}
 use mathlib.Core.List.{List}
 use mathlib.Core.Option.{Option, some, none}
 use lib.Dec.{eqb}
@@ -17,31 +18,30 @@ use Rattle.capture.specs.declared.packet_line.Direction.the-variants.{Rx
 use Rattle.capture.specs.declared.packet_line.DirectionField.{DirectionField}
 use Rattle.capture.specs.declared.packet_line.Front.{Front}
 use Rattle.capture.specs.declared.packet_line.PacketLine.{PacketLine}
-use Rattle.capture.specs.declared.packet_line.PacketLine.the-variants.{Packet, Refused}
+use Rattle.capture.specs.declared.packet_line.PacketLine.the-variants.{Packet, Bad, Refused}
 
 abbrev pub atField : List ℕ → Field
-atField s = decimalAfter s lineStart atKey most32
+atField text = decimalAfter text lineStart atKey most32
 
 -- the direction after the time's field: rx where its key stands there, else tx
 unfoldable pub directionAfter : List ℕ → Field → DirectionField
-directionAfter s at = record { field = pick (keyAfter s at rxKey .good) (keyAfter s at rxKey) (keyAfter s at txKey); direction = pick (keyAfter s at rxKey .good) Rx Tx }
+directionAfter text at = record { field = pick (keyAfter text at rxKey .good) (keyAfter text at rxKey) (keyAfter text at txKey); direction = pick (keyAfter text at rxKey .good) Rx Tx }
 
 abbrev pub directionOf : List ℕ → DirectionField
-directionOf s = directionAfter s (atField s)
+directionOf text = directionAfter text (atField text)
 
--- its bound is above every line's byte count
 abbrev pub lengthField : List ℕ → Field
-lengthField s = decimalAfter s (directionOf s .field) lengthKey most32
+lengthField text = decimalAfter text (directionOf text .field) lengthKey most32
 
 -- the packet's digits run to the end of the line
 abbrev pub digitsField : List ℕ → Field
-digitsField s = keyAfter s (lengthField s) packetKey
+digitsField text = keyAfter text (lengthField text) packetKey
 
 unfoldable pub frontOf : List ℕ → Front
-frontOf s =
-    record { good = digitsField s .good; at = atField s .value; direction = directionOf s .direction; size = lengthField s .value; digits = digitsField s .next }
+frontOf text =
+    record { good = digitsField text .good; at = atField text .value; direction = directionOf text .direction; size = lengthField text .value; digits = digitsField text .next }
 
--- what a packet line holds
+-- what a packet line says
 pub record PacketText : Type 0 where
   pub at : ℕ
   pub direction : Direction
@@ -53,23 +53,16 @@ counted f none = none
 counted f (some bytes) = pick (eqb (length bytes) (f .size)) (some (record { at = f .at; direction = f .direction; bytes = bytes })) none
 
 unfoldable pub packetLine : List ℕ → Option PacketText
-packetLine s = pick (frontOf s .good) (counted (frontOf s) (bytesSpelled (drop (frontOf s .digits) s))) none
+packetLine text = pick (frontOf text .good) (counted (frontOf text) (bytesSpelled (drop (frontOf text .digits) text))) none
 
-abbrev pub spelledNumber : Option (List ℕ) → ℕ
-spelledNumber none = 13
-spelledNumber (some bytes) = 12
+-- a bad line is bad whatever the room; else 12 where the packet's first most bytes do not fit; the size is of all its
+-- bytes
+abbrev pub entryAnswer : ℕ → Option PacketText → List ℕ → PacketLine
+entryAnswer most none out = Bad
+entryAnswer most (some p) out =
+    pick (fits 0 (take most (p .bytes)) out) (Packet (record { at = p .at; direction = p .direction; size = length (p .bytes) })) (Refused 12)
 
--- the number of digits that there is no room for
-unfoldable pub unlaidNumber : List ℕ → ℕ
-unlaidNumber digits = spelledNumber (bytesSpelled digits)
-
--- 13 for a bad line, then 12 where the packet's first most bytes do not fit; the size is of all its bytes
-abbrev pub lineAnswer : ℕ → Option PacketText → List ℕ → PacketLine
-lineAnswer most none out = Refused (record { number = 13 })
-lineAnswer most (some p) out =
-    pick (fits 0 (take most (p .bytes)) out) (Packet (record { at = p .at; direction = p .direction; size = length (p .bytes) })) (Refused (record { number = 12 }))
-
--- the packet's first most bytes over the front of an output, which stays as it was with a number
+-- the packet's first most bytes over the front of an output, which stays as it was with another answer
 abbrev pub packetOver : ℕ → Option PacketText → List ℕ → List ℕ
 packetOver most none out = out
 packetOver most (some p) out = laid 0 (take most (p .bytes)) out

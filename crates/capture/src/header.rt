@@ -1,4 +1,5 @@
 // Line one of a capture.
+use crate::MOST_32;
 use text::fields::Field;
 use text::fields::decimal_after;
 use text::fields::hex_after;
@@ -6,7 +7,8 @@ use text::fields::line_start;
 use tlp::settings::Settings;
 use tlp::settings::settings_listed;
 ghost use mathlib.Core.Path.{_≡_};
-ghost use Rattle.capture.specs.Headers.{headerFields, headerLine};
+ghost use Rattle.capture.specs.Headers.{headerLine};
+ghost use Rattle.capture.specs.Inner.HeaderFields.{headerFields};
 
 // The settings, and the requester ID of the box.
 pub struct Header {
@@ -19,14 +21,12 @@ pub enum HeaderLine {
     Bad,
 }
 
-const MOST_32: u64 = 4294967295;
-
 // What a line's four fields spell, whether they are good, and the index after them.
-pub struct HeaderFields {
-    pub good: bool,
-    pub settings: Settings,
-    pub requester: u16,
-    pub next: usize,
+struct HeaderFields {
+    good: bool,
+    settings: Settings,
+    requester: u16,
+    next: usize,
 }
 
 fn header_fields(text: &[u8]) -> HeaderFields
@@ -49,16 +49,16 @@ fn header_fields(text: &[u8]) -> HeaderFields
     }
 }
 
-// The header that a line's text spells.
+// Reads line one, the header that its text spells.
 pub fn header_line(text: &[u8]) -> HeaderLine
     ensures { λ r. ⌜ r ≡ headerLine (now (text .entry)) ⌝ }
 {
-    let f = header_fields(text);
-    let settings = f.settings;
-    if !f.good {
+    let fields = header_fields(text);
+    let settings = fields.settings;
+    if !fields.good {
         return HeaderLine::Bad;
     }
-    if f.next != text.len() {
+    if fields.next != text.len() {
         return HeaderLine::Bad;
     }
     if !settings_listed(settings) {
@@ -66,6 +66,6 @@ pub fn header_line(text: &[u8]) -> HeaderLine
     }
     HeaderLine::Good(Header {
         settings: settings,
-        requester: f.requester,
+        requester: fields.requester,
     })
 }

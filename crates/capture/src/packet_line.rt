@@ -1,4 +1,5 @@
 // The lines after line one: a packet each.
+use crate::MOST_32;
 use bits::choice::lesser;
 use text::fields::Field;
 use text::fields::decimal_after;
@@ -8,9 +9,10 @@ use text::hex::Spelled;
 use text::hex::hex_front;
 use text::hex::hex_only;
 use text::words::part;
-use tlp::refusal::Refusal;
 ghost use mathlib.Core.Path.{_≡_};
-ghost use Rattle.capture.specs.PacketLines.{directionAfter, frontOf, packetLine, unlaidNumber, lineAnswer, packetOver};
+ghost use Rattle.text.specs.Hex.{bytesSpelled};
+ghost use Rattle.capture.specs.PacketLines.{directionAfter, frontOf, packetLine, entryAnswer, packetOver};
+ghost use Rattle.capture.specs.Inner.Unlaid.{unlaidAnswer};
 
 pub enum Direction {
     Rx,
@@ -26,24 +28,25 @@ pub struct Entry {
 
 pub enum PacketLine {
     Packet(Entry),
-    Refused(Refusal),
+    // The line is bad.
+    Bad,
+    // 12: there is no room for its packet.
+    Refused(u32),
 }
 
-const MOST_32: u64 = 4294967295;
-
 // What stands before the packet's digits, the first of which is at index digits.
-pub struct Front {
-    pub good: bool,
-    pub at: u32,
-    pub direction: Direction,
-    pub size: u32,
-    pub digits: usize,
+struct Front {
+    good: bool,
+    at: u32,
+    direction: Direction,
+    size: u32,
+    digits: usize,
 }
 
 // The direction, and the field of its key.
-pub struct DirectionField {
-    pub field: Field,
-    pub direction: Direction,
+struct DirectionField {
+    field: Field,
+    direction: Direction,
 }
 
 fn direction_after(text: &[u8], at: Field) -> DirectionField
@@ -81,46 +84,42 @@ fn front_of(text: &[u8]) -> Front
     }
 }
 
-fn refused(number: u32) -> PacketLine
-    ensures { λ r. ⌜ r ≡ PacketLine.Refused (record { number = number }) ⌝ }
-{
-    PacketLine::Refused(Refusal { number: number })
-}
-
-// The number of digits that spell a packet for which there is no room: 13 where they are bad.
-fn unlaid_number(digits: &[u8]) -> u32
-    ensures { λ r. ⌜ r ≡ unlaidNumber (now (digits .entry)) ⌝ }
+// Of digits that spell a packet for which there is no room, unless they are bad.
+fn unlaid_answer(digits: &[u8]) -> PacketLine
+    ensures { λ r. ⌜ r ≡ unlaidAnswer (bytesSpelled (now (digits .entry))) ⌝ }
 {
     if digits.len() % 2 != 0 {
-        return 13;
+        return PacketLine::Bad;
     }
     if !hex_only(digits) {
-        return 13;
+        return PacketLine::Bad;
     }
-    12
+    PacketLine::Refused(12)
 }
 
-// The packet of a line's text, its first most bytes over the front of out; with a number out stays as it was.
+// Reads a packet line: its packet's first most bytes go over the front of out, which stays as it was with another
+// answer.
 pub fn packet_line(text: &[u8], most: usize, out: &mut [u8]) -> PacketLine
-    ensures { λ r. ⌜ (r ≡ lineAnswer most (packetLine (now (text .entry))) (now (out .entry))) × (now (out .exit) ≡ packetOver most (packetLine (now (text .entry))) (now (out .entry))) ⌝ }
+    ensures answer { λ r. ⌜ r ≡ entryAnswer most (packetLine (now (text .entry))) (now (out .entry)) ⌝ }
+    ensures output { λ r. ⌜ now (out .exit) ≡ packetOver most (packetLine (now (text .entry))) (now (out .entry)) ⌝ }
 {
-    let f = front_of(text);
-    let direction = f.direction;
-    if !f.good {
-        return refused(13);
+    let front = front_of(text);
+    let direction = front.direction;
+    if !front.good {
+        return PacketLine::Bad;
     }
-    let digits = part(text, f.digits, text.len());
-    if digits.len() / 2 != f.size as usize {
-        return refused(13);
+    let digits = part(text, front.digits, text.len());
+    if digits.len() / 2 != front.size as usize {
+        return PacketLine::Bad;
     }
     if out.len() < lesser(most, digits.len() / 2) {
-        return refused(unlaid_number(digits));
+        return unlaid_answer(digits);
     }
     let spelled = hex_front(digits, most, out);
     match spelled {
-        Spelled::Bad => refused(13),
+        Spelled::Bad => PacketLine::Bad,
         Spelled::Bytes(n) => PacketLine::Packet(Entry {
-            at: f.at,
+            at: front.at,
             direction: direction,
             size: n,
         }),

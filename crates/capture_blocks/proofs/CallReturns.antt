@@ -13,14 +13,14 @@ use Rattle.text.proofs.LaidLaws.{after-nothing, laid-nothing}
 use Rattle.tlp.specs.declared.settings.Settings.{Settings}
 use Rattle.capture_lines.specs.Lines.{completeLines, unended}
 use Rattle.capture_print.specs.Outputs.{codeLine, outputLine, totalsLine}
-use Rattle.capture.specs.Decode.{Decoding, noLines, tailDecoded}
+use Rattle.capture_decode.specs.Decode.{Decoding, noLines, tailDecoded}
+use Rattle.capture_decode.specs.Printed.{printedEach}
 use Rattle.capture_print.proofs.PrintLaws.{code-11, code-13}
 use Rattle.capture_blocks.specs.Blocks.{stepLines, stepFirst, stepSkipping, stepOf, endOf, totalsFollow, totalsOf}
 use Rattle.capture_blocks.specs.Answers.{stepIn, hasRoom, stepAnswer, stepOver, ending, endAnswer, endOver}
 use Rattle.capture_blocks.specs.declared.Progress.{Progress}
 use Rattle.capture_blocks.specs.declared.Progress.the-variants.{First, Lines, Skipping, Refused}
 use Rattle.capture_blocks.specs.declared.Step.{Step}
-use Rattle.capture_blocks.specs.declared.BlockAnswer.{BlockAnswer}
 use Rattle.capture_blocks.specs.declared.BlockAnswer.the-variants.{Stepped, Refused as BlockRefused}
 use Rattle.capture_blocks.proofs.StepReturns.{silent-step, number-step, number-output}
 
@@ -61,32 +61,32 @@ module _ (p : Progress) (bytes out : List ℕ) (r : Step) (out1 : List ℕ) wher
 
 pub ruleset within-laws = (within-first, within-first-output, within-lines, within-lines-output, within-skipping, within-skipping-output, within-refused, within-refused-output)
 
--- ---- step
+-- ---- decode_block
 
 module _ (p : Progress) (bytes out : List ℕ) where
   module _ (h : length out / 8 < length bytes) where
     no-room : hasRoom (length bytes) out ≡ false
-    no-room = lt-leb (8 * length bytes) (length out) (omega (arith, h))
+    no-room = lt-leb (printedEach * length bytes) (length out) (omega (arith, h))
 
-    pub step-short : (r : BlockAnswer) → r ≡ BlockRefused (record { number = 12 }) → r ≡ stepAnswer p bytes out
+    pub step-short : BlockRefused 12 ≡ stepAnswer p bytes out
     unfolding stepAnswer
-    step-short r e = e ∙ rw no-room
+    step-short = rw no-room
 
     pub step-short-output : out ≡ stepOver p bytes out
     unfolding stepOver
     step-short-output = rw no-room
 
   module _ (h : length bytes ≤ length out / 8) where
-    pub step-room : 8 * length bytes ≤ length out
+    pub step-room : printedEach * length bytes ≤ length out
     step-room = omega (arith, h)
 
-    pub step-done : (s : Step) → s ≡ stepIn (stepOf p bytes) (length bytes) → Stepped s ≡ stepAnswer p bytes out
+    pub step-done : (step : Step) → step ≡ stepIn (stepOf p bytes) (length bytes) → Stepped step ≡ stepAnswer p bytes out
     unfolding stepAnswer
-    step-done s e = rw (le-leb (8 * length bytes) (length out) step-room, e)
+    step-done step e = rw (le-leb (printedEach * length bytes) (length out) step-room, e)
 
     pub step-done-output : (out1 : List ℕ) → out1 ≡ put 0 (stepOf p bytes .decoding .output) out → out1 ≡ stepOver p bytes out
     unfolding stepOver
-    step-done-output out1 e = e ∙ rw (le-leb (8 * length bytes) (length out) step-room)
+    step-done-output out1 e = e ∙ rw (le-leb (printedEach * length bytes) (length out) step-room)
 
 pub ruleset step-answers = (step-short, step-short-output, step-done, step-done-output)
 
@@ -99,14 +99,14 @@ module _ (p : Progress) (rest out : List ℕ) (r : Step) (out1 : List ℕ) where
   end-silent-output : endOf p rest ≡ noLines → out ≡ put 0 (endOf p rest .output) out
   end-silent-output z = sym (put-done 0 out) ∙ ap (λ (y : Decoding). put 0 (y .output) out) (sym z)
 
-  module _ (h : 8 ≤ length out) (n : ℕ) (e : length (codeLine n) ≡ 8) (k : ℕ) (z : endOf p rest ≡ record { output = codeLine n; lines = k; refused = k }) where
+  module _ (h : printedEach ≤ length out) (n : ℕ) (e : length (codeLine n) ≡ 8) (k : ℕ) (z : endOf p rest ≡ record { output = codeLine n; lines = k; refused = k }) where
     end-code : (x : Progress) → p ≡ x → r ≡ record { progress = x; used = length rest; written = after 0 (codeLine n) out; lines = k; refused = k } → r ≡ stepIn (ending p rest) (length rest)
     end-code x u d = number-step p (length rest) n k out h e r (d ∙ rw u) ∙ ap (λ (w : Decoding). stepIn (record { progress = p; decoding = w; left = 0 }) (length rest)) (sym z)
 
     end-code-output : out1 ≡ laid 0 (codeLine n) out → out1 ≡ put 0 (endOf p rest .output) out
     end-code-output d = number-output p (length rest) n k out h e out1 d ∙ ap (λ (w : Decoding). put 0 (w .output) out) (sym z)
 
-  module _ (u : p ≡ First) (h : 8 ≤ length out) where
+  module _ (u : p ≡ First) (h : printedEach ≤ length out) where
     first-end : endOf p rest ≡ record { output = codeLine 11; lines = 0; refused = 0 }
     unfolding endOf
     first-end = rw u
@@ -118,15 +118,15 @@ module _ (p : Progress) (rest out : List ℕ) (r : Step) (out1 : List ℕ) where
     end-first-output d = end-code-output h 11 code-11 0 first-end d
 
   module _ (c : Settings) (u : p ≡ Lines c) where
-    tail-empty : (s : List ℕ) → length s ≡ 0 → tailDecoded s ≡ noLines
+    tail-empty : (tail : List ℕ) → length tail ≡ 0 → tailDecoded tail ≡ noLines
     unfolding tailDecoded
     tail-empty [] e = refl
-    tail-empty (b ∷ s) e = absurd (omega (arith, e))
+    tail-empty (b ∷ tail) e = absurd (omega (arith, e))
 
-    tail-bad : (s : List ℕ) → (length s ≡ 0 → ⊥) → tailDecoded s ≡ record { output = codeLine 13; lines = 1; refused = 1 }
+    tail-bad : (tail : List ℕ) → (length tail ≡ 0 → ⊥) → tailDecoded tail ≡ record { output = codeLine 13; lines = 1; refused = 1 }
     unfolding tailDecoded outputLine
     tail-bad [] e = absurd (e refl)
-    tail-bad (b ∷ s) e = rw (append-nil (codeLine 13))
+    tail-bad (b ∷ tail) e = rw (append-nil (codeLine 13))
 
     lines-end : endOf p rest ≡ tailDecoded rest
     unfolding endOf
@@ -139,7 +139,7 @@ module _ (p : Progress) (rest out : List ℕ) (r : Step) (out1 : List ℕ) where
       pub end-complete-output : out ≡ put 0 (endOf p rest .output) out
       end-complete-output = end-silent-output (lines-end ∙ tail-empty rest e)
 
-    module _ (e : length rest ≡ 0 → ⊥) (h : 8 ≤ length out) where
+    module _ (e : length rest ≡ 0 → ⊥) (h : printedEach ≤ length out) where
       pub end-unended : r ≡ record { progress = Lines c; used = length rest; written = after 0 (codeLine 13) out; lines = 1; refused = 1 } → r ≡ stepIn (ending p rest) (length rest)
       end-unended d = end-code h 13 code-13 1 (lines-end ∙ tail-bad rest e) (Lines c) u d
 
@@ -170,26 +170,26 @@ module _ (p : Progress) (rest out : List ℕ) (r : Step) (out1 : List ℕ) where
 
 pub ruleset end-laws = (end-first, end-first-output, end-complete, end-complete-output, end-unended, end-unended-output, end-skipping, end-skipping-output, end-refused, end-refused-output)
 
--- ---- finish
+-- ---- decode_end
 
 module _ (p : Progress) (rest out : List ℕ) where
-  module _ (h : length out < 8) where
-    pub end-short : (r : BlockAnswer) → r ≡ BlockRefused (record { number = 12 }) → r ≡ endAnswer p rest out
+  module _ (h : length out < printedEach) where
+    pub end-short : BlockRefused 12 ≡ endAnswer p rest out
     unfolding endAnswer
-    end-short r e = e ∙ rw (lt-leb (8 * 1) (length out) (omega (arith, h)))
+    end-short = rw (lt-leb (printedEach * 1) (length out) (omega (arith, h)))
 
     pub end-short-output : out ≡ endOver p rest out
     unfolding endOver
-    end-short-output = rw (lt-leb (8 * 1) (length out) (omega (arith, h)))
+    end-short-output = rw (lt-leb (printedEach * 1) (length out) (omega (arith, h)))
 
-  module _ (h : 8 ≤ length out) where
-    pub end-done : (s : Step) → s ≡ stepIn (ending p rest) (length rest) → Stepped s ≡ endAnswer p rest out
+  module _ (h : printedEach ≤ length out) where
+    pub end-done : (step : Step) → step ≡ stepIn (ending p rest) (length rest) → Stepped step ≡ endAnswer p rest out
     unfolding endAnswer
-    end-done s e = rw (le-leb (8 * 1) (length out) (omega (arith, h)), e)
+    end-done step e = rw (le-leb (printedEach * 1) (length out) (omega (arith, h)), e)
 
     pub end-done-output : (out1 : List ℕ) → out1 ≡ put 0 (endOf p rest .output) out → out1 ≡ endOver p rest out
     unfolding endOver
-    end-done-output out1 e = e ∙ rw (le-leb (8 * 1) (length out) (omega (arith, h)))
+    end-done-output out1 e = e ∙ rw (le-leb (printedEach * 1) (length out) (omega (arith, h)))
 
 pub ruleset end-answers = (end-short, end-short-output, end-done, end-done-output)
 
@@ -214,7 +214,7 @@ module _ (p : Progress) where
 
 pub ruleset follow-laws = (follow-first, follow-lines, follow-skipping, follow-refused)
 
--- ---- put_totals_after
+-- ---- put_totals_of
 
 module _ (p : Progress) (lines refused at : ℕ) (out : List ℕ) (b : Bool) (e : b ≡ totalsFollow p) where
   pub no-totals : not b ≡ true → at ≡ after at (totalsOf p lines refused) out

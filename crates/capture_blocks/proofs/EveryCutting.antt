@@ -9,7 +9,7 @@ use lib.Seq.{drop-length}
 use Rattle.tlp.specs.declared.settings.Settings.{Settings}
 use Rattle.capture_lines.specs.Lines.{completeLines, unended, overLong}
 use Rattle.capture_print.specs.Outputs.{codeLine}
-use Rattle.capture.specs.Decode.{headerRead, linesDecoded, tailDecoded, headerDecoded, textDecoded, decodeText}
+use Rattle.capture_decode.specs.Decode.{headerRead, linesDecoded, tailDecoded, headerDecoded, textDecoded, decodeText}
 use Rattle.capture.specs.declared.header.HeaderLine.{HeaderLine}
 use Rattle.capture.specs.declared.header.HeaderLine.the-variants.{Good, Bad}
 use Rattle.capture_lines.proofs.LineLaws.{complete-append, unended-append, complete-unended, unended-all, drop-unended}

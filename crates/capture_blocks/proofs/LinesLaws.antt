@@ -15,19 +15,22 @@ use Rattle.text.proofs.LaidLaws.{put-next}
 use Rattle.tlp.specs.declared.settings.Settings.{Settings}
 use Rattle.tlp_read.specs.declared.ReadAnswer.{ReadAnswer}
 use Rattle.tlp_read.specs.declared.ReadAnswer.the-variants.{Accepted, Refused}
+use Rattle.capture_print.specs.declared.LineAnswer.{LineAnswer}
+use Rattle.capture_print.specs.declared.LineAnswer.the-variants.{Read, Bad, Refused as Unlaid}
 use Rattle.capture_lines.specs.Lines.{completeLines, unended}
 use Rattle.capture_print.specs.Outputs.{outputLine}
-use Rattle.capture.specs.Decode.{Decoding, noLines, lineStep, lineRead, refusedCount, linesDecoded}
-use Rattle.capture.proofs.RoomLaws.{output-room}
+use Rattle.capture_decode.specs.Decode.{Decoding, noLines, lineStep, lineRead, readRefused, refusedCount, linesDecoded}
+use Rattle.capture_decode.specs.Printed.{printedEach}
+use Rattle.capture_decode.proofs.RoomLaws.{output-room}
 use Rattle.capture_lines.proofs.LineLaws.{Following, following, unended-all}
-use Rattle.capture_blocks.specs.Answers.{lineDone, lineDoneIn, lineOver, lineOverIn, decodedFrom, tallyFrom}
+use Rattle.capture_blocks.specs.Inner.Lines.{lineDone, lineDoneIn, lineOver, lineOverIn, decodedFrom, tallyFrom}
 use Rattle.capture_blocks.specs.declared.lines.LineDone.{LineDone}
 use Rattle.capture_blocks.specs.declared.lines.Tally.{Tally}
 
 -- what holds of the loop: what is still to come, laid behind what is printed, gives the whole
 pub record Going (c : Settings) (bytes : List ℕ) (from : ℕ) (out₀ : List ℕ) (place at lines refused : ℕ) (out : List ℕ) : Type 0 where
   pub within : place ≤ length bytes
-  pub room : at + 8 * (length bytes - place) ≤ length out
+  pub room : at + printedEach * (length bytes - place) ≤ length out
   pub size : length out ≡ length out₀
   pub output : put at (decodedFrom c bytes place .output) out ≡ put 0 (decodedFrom c bytes from .output) out₀
   pub written : at + length (decodedFrom c bytes place .output) ≡ length (decodedFrom c bytes from .output)
@@ -48,36 +51,41 @@ module _ (c : Settings) (bytes : List ℕ) (place : ℕ) where
     next-place : drop (place + suc (length text)) bytes ≡ drop (suc (length text)) (drop place bytes)
     next-place = sym (drop-drop (suc (length text)) place bytes)
 
-    after : Following (drop place bytes) (text ∷ texts)
-    after = following (drop place bytes) text texts e
+    behind : Following (drop place bytes) (text ∷ texts)
+    behind = following (drop place bytes) text texts e
 
     next-complete : completeLines (drop (place + suc (length text)) bytes) ≡ texts
-    next-complete = rw next-place (after .1 .0)
+    next-complete = rw next-place (behind .1 .0)
 
     next-unended : unended (drop (place + suc (length text)) bytes) ≡ unended (drop place bytes)
-    next-unended = rw next-place (after .1 .1)
+    next-unended = rw next-place (behind .1 .1)
 
     next-within : place + suc (length text) ≤ length bytes
-    next-within = omega (arith, after .0, length-drop place bytes)
+    next-within = omega (arith, behind .0, length-drop place bytes)
 
     decoded-some : decodedFrom c bytes place ≡ lineStep (lineRead c text) (decodedFrom c bytes (place + suc (length text)))
     unfolding decodedFrom linesDecoded
     decoded-some = rw (e, next-complete)
 
-pub refused-most : (a : ReadAnswer) → refusedCount a ≤ 1
-refused-most (Accepted p) = omega arith
-refused-most (Refused r) = omega arith
+read-most : (a : ReadAnswer) → readRefused a ≤ 1
+read-most (Accepted p) = omega arith
+read-most (Refused r) = omega arith
+
+pub refused-most : (a : LineAnswer) → refusedCount a ≤ 1
+refused-most (Read a) = read-most a
+refused-most Bad = omega arith
+refused-most (Unlaid n) = omega arith
 
 -- ---- the loop
 
 module _ (c : Settings) (bytes : List ℕ) (from : ℕ) (out₀ : List ℕ) where
-  pub going-start : from ≤ length bytes → 8 * (length bytes - from) ≤ length out₀ → Going c bytes from out₀ from 0 0 0 out₀
+  pub going-start : from ≤ length bytes → printedEach * (length bytes - from) ≤ length out₀ → Going c bytes from out₀ from 0 0 0 out₀
   going-start h r =
       record { within = h; room = omega (arith, r); size = refl; output = refl; written = zero-add _; counted = zero-add _; refusals = zero-add _; tail = refl; few = omega arith; fewer = omega arith }
 
   module _ (place at lines refused : ℕ) (out : List ℕ) (g : Going c bytes from out₀ place at lines refused out) where
     module _ (r : Tally) (e : r ≡ record { used = place; written = at; lines = lines; refused = refused }) where
-      pub bound-written : r .written + 8 * (length bytes - r .used) ≤ length out₀
+      pub bound-written : r .written + printedEach * (length bytes - r .used) ≤ length out₀
       bound-written = rw e (omega (arith, g .room, g .size))
 
       pub bound-lines : r .lines ≤ r .used
@@ -114,7 +122,7 @@ module _ (c : Settings) (bytes : List ℕ) (from : ℕ) (out₀ : List ℕ) wher
       done-output = sym (put-done at out) ∙ (ap (λ (d : Decoding). put at (d .output) out) (sym none-left) ∙ g .output)
 
     -- one more complete line
-    module _ (text : List ℕ) (texts : List (List ℕ)) (e : completeLines (drop place bytes) ≡ text ∷ texts) (fits : length (outputLine (lineRead c text)) ≤ 8 * suc (length text)) where
+    module _ (text : List ℕ) (texts : List (List ℕ)) (e : completeLines (drop place bytes) ≡ text ∷ texts) (fits : length (outputLine (lineRead c text)) ≤ printedEach * suc (length text)) where
       some-left : decodedFrom c bytes place ≡ lineStep (lineRead c text) (decodedFrom c bytes (place + suc (length text)))
       some-left = decoded-some c bytes place text texts e
 

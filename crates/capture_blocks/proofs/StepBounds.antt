@@ -9,9 +9,10 @@ use borrow.Author.Tests.{ltb-true, ltb-false}
 use Rattle.tlp.specs.declared.settings.Settings.{Settings}
 use Rattle.capture_lines.specs.Lines.{textMost, overLong, completeLines, unended}
 use Rattle.capture_print.specs.Outputs.{codeLine}
-use Rattle.capture.specs.Decode.{Decoding, badLine, headerRead, lineRead, lineStep, noLines, tailDecoded, linesDecoded}
+use Rattle.capture_print.specs.declared.LineAnswer.the-variants.{Bad}
+use Rattle.capture_decode.specs.Decode.{Decoding, headerRead, lineRead, lineStep, noLines, tailDecoded, linesDecoded}
 use Rattle.capture.specs.declared.header.HeaderLine.{HeaderLine}
-use Rattle.capture.specs.declared.header.HeaderLine.the-variants.{Good, Bad}
+use Rattle.capture.specs.declared.header.HeaderLine.the-variants.{Good, Bad as BadHeader}
 use Rattle.capture_lines.proofs.LineLaws.{complete-le}
 use Rattle.capture_blocks.specs.Blocks.{Stepping, stepLines, stepHeader, stepFirst, stepSkipping, stepFrom, stepOf, endOf}
 use Rattle.capture_blocks.specs.Answers.{stepIn, hasRoom, answerIn, ending, stepAnswer, endAnswer}
@@ -37,11 +38,11 @@ decoded-refused c (text ∷ texts) d h = omega (arith, decoded-refused c texts d
 -- ---- a stepping
 
 -- over so many bytes: no more lines than most, with the bytes that it leaves
-record Bounded (size most : ℕ) (s : Stepping) : Type 0 where
-  few : s .decoding .lines + s .left ≤ most
-  fewer : s .decoding .refused ≤ s .decoding .lines
-  short : s .left ≤ 8266
-  inside : s .left ≤ size
+record Bounded (size most : ℕ) (stepping : Stepping) : Type 0 where
+  few : stepping .decoding .lines + stepping .left ≤ most
+  fewer : stepping .decoding .refused ≤ stepping .decoding .lines
+  short : stepping .left ≤ textMost
+  inside : stepping .left ≤ size
 
 -- no line, and nothing left
 no-lines : (size most : ℕ) (p : Progress) (text : List ℕ) → Bounded size most (record { progress = p; decoding = record { output = text; lines = 0; refused = 0 }; left = 0 })
@@ -52,7 +53,7 @@ module _ (size : ℕ) (tail : List ℕ) where
   unfolding stepLines overLong
   lines-by c texts true e h =
       let n = ltb-true textMost (length tail) e in
-      rw e (record { few = omega (arith, h, n, decoded-lines c texts (lineStep badLine noLines)); fewer = decoded-refused c texts (lineStep badLine noLines) (omega arith); short = omega arith; inside = omega arith })
+      rw e (record { few = omega (arith, h, n, decoded-lines c texts (lineStep Bad noLines)); fewer = decoded-refused c texts (lineStep Bad noLines) (omega arith); short = omega arith; inside = omega arith })
   lines-by c texts false e h =
       let n = ltb-false textMost (length tail) e in
       rw e (record { few = omega (arith, h, decoded-lines c texts noLines); fewer = decoded-refused c texts noLines (omega arith); short = omega (arith, n); inside = omega (arith, h) })
@@ -61,7 +62,7 @@ module _ (size : ℕ) (tail : List ℕ) where
   lines-bounded c texts h = lines-by c texts (overLong tail) refl h
 
   header-bounded : (v : HeaderLine) (texts : List (List ℕ)) → length texts + length tail ≤ size → Bounded size size (stepHeader v texts tail)
-  header-bounded Bad texts h = no-lines size size Refused (codeLine 11)
+  header-bounded BadHeader texts h = no-lines size size Refused (codeLine 11)
   header-bounded (Good v) texts h = lines-bounded (v .settings) texts h
 
   first-by : (b : Bool) → overLong tail ≡ b → length tail ≤ size → Bounded size size (stepFirst [] tail)
@@ -96,56 +97,53 @@ end-bounded Refused rest = no-lines (length rest) 1 Refused []
 
 -- ---- the step of an answer
 
-stepped-by : (s : Step) (v : Stepping) (size : ℕ) (b : Bool) → Stepped s ≡ answerIn v size b → s ≡ stepIn v size
-stepped-by s v size true e = cc
-stepped-by s v size false e = cc
+stepped-by : (step : Step) (v : Stepping) (size : ℕ) (b : Bool) → Stepped step ≡ answerIn v size b → step ≡ stepIn v size
+stepped-by step v size true e = cc
+stepped-by step v size false e = cc
 
-module _ (s : Step) (size most : ℕ) (v : Stepping) (g : Bounded size most v) (e : s ≡ stepIn v size) where
-  used-le : s .used ≤ size
+module _ (step : Step) (size most : ℕ) (v : Stepping) (g : Bounded size most v) (e : step ≡ stepIn v size) where
+  used-le : step .used ≤ size
   used-le = rw e (omega arith)
 
-  left-le : size - s .used ≤ 8266
+  left-le : size - step .used ≤ textMost
   left-le = rw e (omega (arith, g .short, g .inside))
 
-  lines-le : s .lines ≤ most
+  lines-le : step .lines ≤ most
   lines-le = rw e (omega (arith, g .few))
 
-  refused-le : s .refused ≤ s .lines
+  refused-le : step .refused ≤ step .lines
   refused-le = rw e (g .fewer)
 
 -- of decode_block
-module _ (p : Progress) (bytes out : List ℕ) (r : BlockAnswer) (d : r ≡ stepAnswer p bytes out) (s : Step) (u : r ≡ Stepped s) where
-  block-step : s ≡ stepIn (stepOf p bytes) (length bytes)
+module _ (p : Progress) (bytes out : List ℕ) (r : BlockAnswer) (d : r ≡ stepAnswer p bytes out) (step : Step) (u : r ≡ Stepped step) where
+  block-step : step ≡ stepIn (stepOf p bytes) (length bytes)
   unfolding stepAnswer
-  block-step = stepped-by s (stepOf p bytes) (length bytes) (hasRoom (length bytes) out) (sym u ∙ d)
+  block-step = stepped-by step (stepOf p bytes) (length bytes) (hasRoom (length bytes) out) (sym u ∙ d)
 
-  pub block-used : s .used ≤ length bytes
-  block-used = used-le s (length bytes) (length bytes) (stepOf p bytes) (step-bounded p bytes) block-step
+  pub block-used : step .used ≤ length bytes
+  block-used = used-le step (length bytes) (length bytes) (stepOf p bytes) (step-bounded p bytes) block-step
 
-  pub block-left : length bytes - s .used ≤ 8266
-  block-left = left-le s (length bytes) (length bytes) (stepOf p bytes) (step-bounded p bytes) block-step
+  pub block-left : length bytes - step .used ≤ textMost
+  block-left = left-le step (length bytes) (length bytes) (stepOf p bytes) (step-bounded p bytes) block-step
 
-  pub block-lines : s .lines ≤ length bytes
-  block-lines = lines-le s (length bytes) (length bytes) (stepOf p bytes) (step-bounded p bytes) block-step
+  pub block-lines : step .lines ≤ length bytes
+  block-lines = lines-le step (length bytes) (length bytes) (stepOf p bytes) (step-bounded p bytes) block-step
 
-  pub block-refused : s .refused ≤ s .lines
-  block-refused = refused-le s (length bytes) (length bytes) (stepOf p bytes) (step-bounded p bytes) block-step
+  pub block-refused : step .refused ≤ step .lines
+  block-refused = refused-le step (length bytes) (length bytes) (stepOf p bytes) (step-bounded p bytes) block-step
 
   -- each line has a byte of its own
-  pub block-within : s .lines ≤ s .used
+  pub block-within : step .lines ≤ step .used
   block-within = rw block-step (omega (arith, step-bounded p bytes .few))
 
 -- of decode_end
-module _ (p : Progress) (rest out : List ℕ) (r : BlockAnswer) (d : r ≡ endAnswer p rest out) (s : Step) (u : r ≡ Stepped s) where
-  end-step : s ≡ stepIn (ending p rest) (length rest)
+module _ (p : Progress) (rest out : List ℕ) (r : BlockAnswer) (d : r ≡ endAnswer p rest out) (step : Step) (u : r ≡ Stepped step) where
+  end-step : step ≡ stepIn (ending p rest) (length rest)
   unfolding endAnswer
-  end-step = stepped-by s (ending p rest) (length rest) (hasRoom 1 out) (sym u ∙ d)
+  end-step = stepped-by step (ending p rest) (length rest) (hasRoom 1 out) (sym u ∙ d)
 
-  pub end-used : s .used ≤ length rest
-  end-used = used-le s (length rest) 1 (ending p rest) (end-bounded p rest) end-step
+  pub end-lines : step .lines ≤ 1
+  end-lines = lines-le step (length rest) 1 (ending p rest) (end-bounded p rest) end-step
 
-  pub end-lines : s .lines ≤ 1
-  end-lines = lines-le s (length rest) 1 (ending p rest) (end-bounded p rest) end-step
-
-  pub end-refused : s .refused ≤ s .lines
-  end-refused = refused-le s (length rest) 1 (ending p rest) (end-bounded p rest) end-step
+  pub end-refused : step .refused ≤ step .lines
+  end-refused = refused-le step (length rest) 1 (ending p rest) (end-bounded p rest) end-step

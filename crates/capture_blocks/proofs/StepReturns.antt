@@ -16,17 +16,20 @@ use Rattle.tlp.specs.declared.settings.Settings.{Settings}
 use Rattle.capture_lines.specs.Lines.{textMost, overLong, completeLines, unended, nextLine}
 use Rattle.capture_print.specs.Outputs.{codeLine, outputLine}
 use Rattle.capture.specs.Headers.{headerLine}
-use Rattle.capture.specs.Decode.{badLine, noLines, lineStep, headerRead}
+use Rattle.capture_print.specs.declared.LineAnswer.the-variants.{Bad}
+use Rattle.capture_decode.specs.Decode.{noLines, lineStep, headerRead}
+use Rattle.capture_decode.specs.Printed.{printedEach}
 use Rattle.capture_lines.specs.declared.NextLine.{NextLine}
 use Rattle.capture_lines.specs.declared.NextLine.the-variants.{Ended, OverLong, Unended}
 use Rattle.capture.specs.declared.header.Header.{Header}
 use Rattle.capture.specs.declared.header.HeaderLine.{HeaderLine}
-use Rattle.capture.specs.declared.header.HeaderLine.the-variants.{Good, Bad}
+use Rattle.capture.specs.declared.header.HeaderLine.the-variants.{Good, Bad as BadHeader}
 use Rattle.capture_print.proofs.PrintLaws.{code-11, code-13}
 use Rattle.capture_lines.proofs.LineLaws.{unended-le, unended-all}
 use Rattle.capture_lines.proofs.NextLaws.{Complete, unended-line, ended-line, over-long-line}
 use Rattle.capture_blocks.specs.Blocks.{Stepping, headerRefused, stepLines, stepHeader, stepFirst, stepSkipping}
-use Rattle.capture_blocks.specs.Answers.{stepIn, decodedFrom, tallyFrom}
+use Rattle.capture_blocks.specs.Answers.{stepIn}
+use Rattle.capture_blocks.specs.Inner.Lines.{decodedFrom, tallyFrom}
 use Rattle.capture_blocks.specs.declared.Progress.{Progress}
 use Rattle.capture_blocks.specs.declared.Progress.the-variants.{First, Lines, Skipping, Refused}
 use Rattle.capture_blocks.specs.declared.Step.{Step}
@@ -46,7 +49,7 @@ module _ (c : Settings) (bytes : List ℕ) (from : ℕ) (out out1 : List ℕ) (t
   unfolding tallyFrom
   tail-size = rw e (omega (arith, unended-le (drop from bytes), length-drop from bytes))
 
-  module _ (h : length bytes - t .used ≤ 8266) where
+  module _ (h : length bytes - t .used ≤ textMost) where
     short-tail : overLong tail ≡ false
     unfolding overLong
     short-tail = le-ltb textMost (length tail) (omega (arith, h, tail-size))
@@ -59,15 +62,15 @@ module _ (c : Settings) (bytes : List ℕ) (from : ℕ) (out out1 : List ℕ) (t
     unfolding stepLines decodedFrom
     output-left = rw (short-tail, o)
 
-  module _ (h : 8266 < length bytes - t .used) (room : t .written + 8 * (length bytes - t .used) ≤ length out) where
+  module _ (h : textMost < length bytes - t .used) (room : t .written + printedEach * (length bytes - t .used) ≤ length out) where
     long-tail : overLong tail ≡ true
     unfolding overLong
     long-tail = lt-ltb textMost (length tail) (omega (arith, h, tail-size))
 
     -- the bad line behind what was decoded
-    decoded-long : stepLines c texts tail ≡ record { progress = Skipping c; decoding = then (decodedFrom c bytes from) (lineStep badLine noLines); left = 0 }
+    decoded-long : stepLines c texts tail ≡ record { progress = Skipping c; decoding = then (decodedFrom c bytes from) (lineStep Bad noLines); left = 0 }
     unfolding stepLines decodedFrom
-    decoded-long = rw (long-tail, ← lines-then c texts noLines (lineStep badLine noLines), none-then (lineStep badLine noLines))
+    decoded-long = rw (long-tail, ← lines-then c texts noLines (lineStep Bad noLines), none-then (lineStep Bad noLines))
 
     abbrev decoded : List ℕ
     decoded = decodedFrom c bytes from .output
@@ -82,7 +85,7 @@ module _ (c : Settings) (bytes : List ℕ) (from : ℕ) (out out1 : List ℕ) (t
     code-fits : length decoded + length (codeLine 13) ≤ length out1
     code-fits = rw (o, length-put 0 decoded out decoded-fits) (omega (arith, room, h, done, code-13))
 
-    bad-output : outputLine badLine ++ [] ≡ codeLine 13
+    bad-output : outputLine Bad ++ [] ≡ codeLine 13
     unfolding outputLine
     bad-output = append-nil (codeLine 13)
 
@@ -95,7 +98,7 @@ module _ (c : Settings) (bytes : List ℕ) (from : ℕ) (out out1 : List ℕ) (t
         let n : w ≡ length (decoded ++ codeLine 13) = k ∙ (rw (← done, after-fits (length decoded) (codeLine 13) out1 code-fits) (sym (length-append decoded (codeLine 13)))) in
         let x : t .lines ≡ decodedFrom c bytes from .lines = unfold tallyFrom in ap (λ (y : Tally). y .lines) e in
         let y : t .refused ≡ decodedFrom c bytes from .refused = unfold tallyFrom in ap (λ (z : Tally). z .refused) e in
-        let z : record { progress = Skipping c; used = length bytes; written = w; lines = t .lines + 1; refused = t .refused + 1 } ≡ stepIn (record { progress = Skipping c; decoding = then (decodedFrom c bytes from) (lineStep badLine noLines); left = 0 }) (length bytes) = rw (n, x, y, sub-zero (length bytes), bad-output) in
+        let z : record { progress = Skipping c; used = length bytes; written = w; lines = t .lines + 1; refused = t .refused + 1 } ≡ stepIn (record { progress = Skipping c; decoding = then (decodedFrom c bytes from) (lineStep Bad noLines); left = 0 }) (length bytes) = rw (n, x, y, sub-zero (length bytes), bad-output) in
         z ∙ ap (λ (q : Stepping). stepIn q (length bytes)) (sym decoded-long)
 
     pub output-skipped : (out2 : List ℕ) → out2 ≡ laid (t .written) (codeLine 13) out1 → out2 ≡ put 0 (stepLines c texts tail .decoding .output) out
@@ -106,7 +109,7 @@ pub ruleset step-lines-laws = (lines-left, output-left, lines-skipped, output-sk
 
 -- ---- a number alone
 
-module _ (p : Progress) (size n k : ℕ) (out : List ℕ) (h : 8 ≤ length out) (e : length (codeLine n) ≡ 8) where
+module _ (p : Progress) (size n k : ℕ) (out : List ℕ) (h : printedEach ≤ length out) (e : length (codeLine n) ≡ 8) where
   number-room : 0 + length (codeLine n) ≤ length out
   number-room = omega (arith, h, e)
 
@@ -130,15 +133,15 @@ module _ (bytes out : List ℕ) (end : ℕ) (text : List ℕ) (t : text ≡ take
   headed-by : (x : HeaderLine) → v ≡ x → headed ≡ stepHeader x (completeLines (drop end bytes)) (unended (drop end bytes))
   headed-by x u = rw (← t, ← e, u)
 
-  module _ (u : v ≡ Bad) (one : 1 ≤ end) (inside : end ≤ length bytes) (room : 8 * length bytes ≤ length out) where
-    h : 8 ≤ length out
+  module _ (u : v ≡ BadHeader) (one : 1 ≤ end) (inside : end ≤ length bytes) (room : printedEach * length bytes ≤ length out) where
+    h : printedEach ≤ length out
     h = omega (arith, one, inside, room)
 
     pub header-bad : r ≡ record { progress = Refused; used = length bytes; written = after 0 (codeLine 11) out; lines = 0; refused = 0 } → r ≡ stepIn headed (length bytes)
-    header-bad d = number-step Refused (length bytes) 11 0 out h code-11 r d ∙ ap (λ (q : Stepping). stepIn q (length bytes)) (sym (headed-by Bad u))
+    header-bad d = number-step Refused (length bytes) 11 0 out h code-11 r d ∙ ap (λ (q : Stepping). stepIn q (length bytes)) (sym (headed-by BadHeader u))
 
     pub header-bad-output : out1 ≡ laid 0 (codeLine 11) out → out1 ≡ put 0 (headed .decoding .output) out
-    header-bad-output d = number-output Refused (length bytes) 11 0 out h code-11 out1 d ∙ ap (λ (q : Stepping). put 0 (q .decoding .output) out) (sym (headed-by Bad u))
+    header-bad-output d = number-output Refused (length bytes) 11 0 out h code-11 out1 d ∙ ap (λ (q : Stepping). put 0 (q .decoding .output) out) (sym (headed-by BadHeader u))
 
   module _ (x : Header) (u : v ≡ Good x) where
     pub header-good : r ≡ stepIn (stepLines (x .settings) (completeLines (drop end bytes)) (unended (drop end bytes))) (length bytes) → r ≡ stepIn headed (length bytes)
@@ -164,11 +167,11 @@ module _ (bytes out : List ℕ) (v : NextLine) (q : v ≡ nextLine bytes 0) (r :
   first = stepFirst (completeLines bytes) (unended bytes)
 
   -- what stands between the answer and the definition
-  as-first : (s : Stepping) → first ≡ s → r ≡ stepIn s (length bytes) → r ≡ stepIn first (length bytes)
-  as-first s e d = d ∙ ap (λ (x : Stepping). stepIn x (length bytes)) (sym e)
+  as-first : (stepping : Stepping) → first ≡ stepping → r ≡ stepIn stepping (length bytes) → r ≡ stepIn first (length bytes)
+  as-first stepping e d = d ∙ ap (λ (x : Stepping). stepIn x (length bytes)) (sym e)
 
-  as-first-output : (s : Stepping) → first ≡ s → out1 ≡ put 0 (s .decoding .output) out → out1 ≡ put 0 (first .decoding .output) out
-  as-first-output s e d = d ∙ ap (λ (x : Stepping). put 0 (x .decoding .output) out) (sym e)
+  as-first-output : (stepping : Stepping) → first ≡ stepping → out1 ≡ put 0 (stepping .decoding .output) out → out1 ≡ put 0 (first .decoding .output) out
+  as-first-output stepping e d = d ∙ ap (λ (x : Stepping). put 0 (x .decoding .output) out) (sym e)
 
   module _ (end : ℕ) (u : v ≡ Ended end) where
     ended-first : first ≡ stepHeader (headerLine (take (end - 1 - 0) (drop 0 bytes))) (completeLines (drop end bytes)) (unended (drop end bytes))
@@ -181,13 +184,13 @@ module _ (bytes out : List ℕ) (v : NextLine) (q : v ≡ nextLine bytes 0) (r :
     pub first-ended-output : out1 ≡ put 0 (stepHeader (headerLine (take (end - 1 - 0) (drop 0 bytes))) (completeLines (drop end bytes)) (unended (drop end bytes)) .decoding .output) out → out1 ≡ put 0 (first .decoding .output) out
     first-ended-output d = as-first-output _ ended-first d
 
-  module _ (room : 8 * length bytes ≤ length out) where
-    module _ (s : first ≡ headerRefused) (n : 1 ≤ length bytes) where
+  module _ (room : printedEach * length bytes ≤ length out) where
+    module _ (same : first ≡ headerRefused) (n : 1 ≤ length bytes) where
       first-bad : r ≡ record { progress = Refused; used = length bytes; written = after 0 (codeLine 11) out; lines = 0; refused = 0 } → r ≡ stepIn first (length bytes)
-      first-bad d = as-first headerRefused s (number-step Refused (length bytes) 11 0 out (omega (arith, room, n)) code-11 r d)
+      first-bad d = as-first headerRefused same (number-step Refused (length bytes) 11 0 out (omega (arith, room, n)) code-11 r d)
 
       first-bad-output : out1 ≡ laid 0 (codeLine 11) out → out1 ≡ put 0 (first .decoding .output) out
-      first-bad-output d = as-first-output headerRefused s (number-output Refused (length bytes) 11 0 out (omega (arith, room, n)) code-11 out1 d)
+      first-bad-output d = as-first-output headerRefused same (number-output Refused (length bytes) 11 0 out (omega (arith, room, n)) code-11 out1 d)
 
     module _ (end : ℕ) (u : v ≡ OverLong end) where
       long-first : first ≡ headerRefused
@@ -213,7 +216,7 @@ module _ (bytes out : List ℕ) (v : NextLine) (q : v ≡ nextLine bytes 0) (r :
       open-size : end ≡ length bytes
       open-size = unended-line bytes 0 at-front v q end u .1
 
-      module _ (h : 8266 < end) where
+      module _ (h : textMost < end) where
         open-long : first ≡ headerRefused
         unfolding stepFirst overLong
         open-long = rw (open-lines, open-tail, lt-ltb textMost (length bytes) (omega (arith, h, open-size)))
@@ -224,7 +227,7 @@ module _ (bytes out : List ℕ) (v : NextLine) (q : v ≡ nextLine bytes 0) (r :
         pub first-open-long-output : out1 ≡ laid 0 (codeLine 11) out → out1 ≡ put 0 (first .decoding .output) out
         first-open-long-output d = first-bad-output open-long (omega (arith, h, open-size)) d
 
-      module _ (h : end ≤ 8266) where
+      module _ (h : end ≤ textMost) where
         open-short : first ≡ record { progress = First; decoding = noLines; left = length bytes }
         unfolding stepFirst overLong
         open-short = rw (open-lines, open-tail, le-ltb textMost (length bytes) (omega (arith, h, open-size)))
@@ -245,25 +248,25 @@ module _ (bytes out : List ℕ) (v : NextLine) (q : v ≡ nextLine bytes 0) (r :
       unfolding stepSkipping
       rest-skipped = rw (f .first, f .tail)
 
-      after-rest : r ≡ stepIn (stepLines c (completeLines (drop end bytes)) (unended (drop end bytes))) (length bytes) → r ≡ stepIn skipped (length bytes)
-      after-rest d = d ∙ ap (λ (x : Stepping). stepIn x (length bytes)) (sym rest-skipped)
+      behind-rest : r ≡ stepIn (stepLines c (completeLines (drop end bytes)) (unended (drop end bytes))) (length bytes) → r ≡ stepIn skipped (length bytes)
+      behind-rest d = d ∙ ap (λ (x : Stepping). stepIn x (length bytes)) (sym rest-skipped)
 
-      after-rest-output : out1 ≡ put 0 (stepLines c (completeLines (drop end bytes)) (unended (drop end bytes)) .decoding .output) out → out1 ≡ put 0 (skipped .decoding .output) out
-      after-rest-output d = d ∙ ap (λ (x : Stepping). put 0 (x .decoding .output) out) (sym rest-skipped)
+      behind-rest-output : out1 ≡ put 0 (stepLines c (completeLines (drop end bytes)) (unended (drop end bytes)) .decoding .output) out → out1 ≡ put 0 (skipped .decoding .output) out
+      behind-rest-output d = d ∙ ap (λ (x : Stepping). put 0 (x .decoding .output) out) (sym rest-skipped)
 
     module _ (end : ℕ) (u : v ≡ Ended end) where
       pub skipped-ended : r ≡ stepIn (stepLines c (completeLines (drop end bytes)) (unended (drop end bytes))) (length bytes) → r ≡ stepIn skipped (length bytes)
-      skipped-ended = after-rest end (ended-line bytes 0 at-front v q end u .0)
+      skipped-ended = behind-rest end (ended-line bytes 0 at-front v q end u .0)
 
       pub skipped-ended-output : out1 ≡ put 0 (stepLines c (completeLines (drop end bytes)) (unended (drop end bytes)) .decoding .output) out → out1 ≡ put 0 (skipped .decoding .output) out
-      skipped-ended-output = after-rest-output end (ended-line bytes 0 at-front v q end u .0)
+      skipped-ended-output = behind-rest-output end (ended-line bytes 0 at-front v q end u .0)
 
     module _ (end : ℕ) (u : v ≡ OverLong end) where
       pub skipped-long : r ≡ stepIn (stepLines c (completeLines (drop end bytes)) (unended (drop end bytes))) (length bytes) → r ≡ stepIn skipped (length bytes)
-      skipped-long = after-rest end (over-long-line bytes 0 at-front v q end u .0)
+      skipped-long = behind-rest end (over-long-line bytes 0 at-front v q end u .0)
 
       pub skipped-long-output : out1 ≡ put 0 (stepLines c (completeLines (drop end bytes)) (unended (drop end bytes)) .decoding .output) out → out1 ≡ put 0 (skipped .decoding .output) out
-      skipped-long-output = after-rest-output end (over-long-line bytes 0 at-front v q end u .0)
+      skipped-long-output = behind-rest-output end (over-long-line bytes 0 at-front v q end u .0)
 
     module _ (end : ℕ) (u : v ≡ Unended end) where
       still-skipping : skipped ≡ record { progress = Skipping c; decoding = noLines; left = 0 }

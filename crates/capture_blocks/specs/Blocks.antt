@@ -1,4 +1,6 @@
--- A capture that comes block by block. Each step is given the bytes that the steps before it left, with a block behind them.
+-- A capture that comes block by block. Each step is given the bytes that the steps before it left, with a block behind
+-- them. What a reader must believe: stepOf, endOf and totalsOf, of which decode_block, decode_end and put_totals_of
+-- speak; and runBlocks and joined, of which EveryCutting does.
 use Prim.Native.Nat.{ℕ, _+_, _-_}
 use mathlib.Core.Bool.{Bool, true, false}
 use mathlib.Core.List.{List, [], _∷_, _++_}
@@ -7,9 +9,10 @@ use Rattle.bits.specs.Choice.{pick}
 use Rattle.tlp.specs.declared.settings.Settings.{Settings}
 use Rattle.capture_lines.specs.Lines.{completeLines, unended, overLong}
 use Rattle.capture_print.specs.Outputs.{codeLine, totalsLine}
-use Rattle.capture.specs.Decode.{Decoding, lineStep, noLines, badLine, headerRead, linesDecoded, tailDecoded}
+use Rattle.capture_decode.specs.Decode.{Decoding, lineStep, noLines, headerRead, linesDecoded, tailDecoded}
 use Rattle.capture.specs.declared.header.HeaderLine.{HeaderLine}
-use Rattle.capture.specs.declared.header.HeaderLine.the-variants.{Good, Bad}
+use Rattle.capture.specs.declared.header.HeaderLine.the-variants.{Good, Bad as BadHeader}
+use Rattle.capture_print.specs.declared.LineAnswer.the-variants.{Bad}
 use Rattle.capture_blocks.specs.declared.Progress.{Progress}
 use Rattle.capture_blocks.specs.declared.Progress.the-variants.{First, Lines, Skipping, Refused}
 
@@ -19,19 +22,20 @@ pub record Stepping : Type 0 where
   pub decoding : Decoding
   pub left : ℕ
 
--- an unended line is left for the next step; one that is over-long already is bad, whatever follows, and its rest is skipped
+-- an unended line is left for the next step; one that is over-long already is bad, whatever follows, and its rest is
+-- skipped
 unfoldable pub stepLines : Settings → List (List ℕ) → List ℕ → Stepping
-stepLines c texts tail =
+stepLines settings texts tail =
     pick (overLong tail)
-    (record { progress = Skipping c; decoding = linesDecoded c texts (lineStep badLine noLines); left = 0 })
-    (record { progress = Lines c; decoding = linesDecoded c texts noLines; left = length tail })
+    (record { progress = Skipping settings; decoding = linesDecoded settings texts (lineStep Bad noLines); left = 0 })
+    (record { progress = Lines settings; decoding = linesDecoded settings texts noLines; left = length tail })
 
--- only `code=11`, and nothing of what follows
+-- "only `code=11`", and nothing of what follows
 abbrev pub headerRefused : Stepping
 headerRefused = record { progress = Refused; decoding = record { output = codeLine 11; lines = 0; refused = 0 }; left = 0 }
 
 abbrev pub stepHeader : HeaderLine → List (List ℕ) → List ℕ → Stepping
-stepHeader Bad texts tail = headerRefused
+stepHeader BadHeader texts tail = headerRefused
 stepHeader (Good h) texts tail = stepLines (h .settings) texts tail
 
 unfoldable pub stepFirst : List (List ℕ) → List ℕ → Stepping
@@ -39,13 +43,13 @@ stepFirst [] tail = pick (overLong tail) headerRefused (record { progress = Firs
 stepFirst (first ∷ texts) tail = stepHeader (headerRead first) texts tail
 
 unfoldable pub stepSkipping : Settings → List (List ℕ) → List ℕ → Stepping
-stepSkipping c [] tail = record { progress = Skipping c; decoding = noLines; left = 0 }
-stepSkipping c (rest ∷ texts) tail = stepLines c texts tail
+stepSkipping settings [] tail = record { progress = Skipping settings; decoding = noLines; left = 0 }
+stepSkipping settings (rest ∷ texts) tail = stepLines settings texts tail
 
 abbrev pub stepFrom : Progress → List (List ℕ) → List ℕ → Stepping
 stepFrom First texts tail = stepFirst texts tail
-stepFrom (Lines c) texts tail = stepLines c texts tail
-stepFrom (Skipping c) texts tail = stepSkipping c texts tail
+stepFrom (Lines settings) texts tail = stepLines settings texts tail
+stepFrom (Skipping settings) texts tail = stepSkipping settings texts tail
 stepFrom Refused texts tail = record { progress = Refused; decoding = noLines; left = 0 }
 
 unfoldable pub stepOf : Progress → List ℕ → Stepping
@@ -56,15 +60,15 @@ stepOf p bytes = stepFrom p (completeLines bytes) (unended bytes)
 -- what is printed there, before the totals: an unended first line, or a last line without newline
 unfoldable pub endOf : Progress → List ℕ → Decoding
 endOf First rest = record { output = codeLine 11; lines = 0; refused = 0 }
-endOf (Lines c) rest = tailDecoded rest
-endOf (Skipping c) rest = noLines
+endOf (Lines settings) rest = tailDecoded rest
+endOf (Skipping settings) rest = noLines
 endOf Refused rest = noLines
 
 -- whether the totals follow: not where line one is missing or bad
 unfoldable pub totalsFollow : Progress → Bool
 totalsFollow First = false
-totalsFollow (Lines c) = true
-totalsFollow (Skipping c) = true
+totalsFollow (Lines settings) = true
+totalsFollow (Skipping settings) = true
 totalsFollow Refused = false
 
 -- the totals, where they follow
@@ -81,8 +85,8 @@ unfoldable pub runFrom : Progress → List ℕ → ℕ → ℕ → List (List �
 runFrom p rest lines refused [] = lastText p (endOf p rest) lines refused
 runFrom p rest lines refused (block ∷ blocks) =
     let bytes = rest ++ block in
-    let s = stepOf p bytes in
-    s .decoding .output ++ runFrom (s .progress) (drop (length bytes - s .left) bytes) (lines + s .decoding .lines) (refused + s .decoding .refused) blocks
+    let stepping = stepOf p bytes in
+    stepping .decoding .output ++ runFrom (stepping .progress) (drop (length bytes - stepping .left) bytes) (lines + stepping .decoding .lines) (refused + stepping .decoding .refused) blocks
 
 -- the output for an input that comes in these blocks
 unfoldable pub runBlocks : List (List ℕ) → List ℕ

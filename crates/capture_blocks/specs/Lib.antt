@@ -1,3 +1,4 @@
 pub mod Blocks
 pub mod EveryCutting
 pub mod Answers
+pub mod Inner

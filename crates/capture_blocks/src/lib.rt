@@ -4,24 +4,26 @@ mod lines;
 use crate::lines::decode_lines;
 use capture::header::HeaderLine;
 use capture::header::header_line;
+use capture_decode::PRINTED_EACH;
 use capture_lines::NextLine;
 use capture_lines::TEXT_MOST;
 use capture_lines::next_line;
 use capture_print::put_code;
 use capture_print::put_totals;
 use text::words::part;
-use tlp::refusal::Refusal;
 use tlp::settings::Settings;
 ghost use mathlib.Core.Path.{_≡_};
 ghost use Prim.Native.Nat.{_-_, _*_, _≤_};
-ghost use lib.ListN.{length, take, drop};
+ghost use lib.ListN.{length};
 ghost use Rattle.bits.specs.Put.{put};
 ghost use Rattle.text.specs.Laid.{laid, after};
-ghost use Rattle.capture_lines.specs.Lines.{completeLines, unended};
-ghost use Rattle.capture.specs.Headers.{headerLine};
+ghost use Rattle.capture_lines.specs.Lines.{textMost};
 ghost use Rattle.capture_print.specs.Outputs.{codeLine};
-ghost use Rattle.capture_blocks.specs.Blocks.{stepLines, stepHeader, stepFirst, stepSkipping, stepOf, endOf, totalsFollow, totalsOf};
+ghost use Rattle.capture_decode.specs.Printed.{printedEach};
+ghost use Rattle.capture_blocks.specs.Blocks.{stepOf, endOf, totalsFollow, totalsOf};
 ghost use Rattle.capture_blocks.specs.Answers.{stepIn, ending, stepAnswer, stepOver, endAnswer, endOver};
+ghost use Rattle.capture_blocks.specs.Inner.Steps.{linesStep, headerStep, firstStep, skippingStep, printedStep};
+ghost use Rattle.capture_blocks.specs.Inner.Steps.{silentStep, numberStep};
 
 // How far a capture has been decoded.
 pub enum Progress {
@@ -35,7 +37,8 @@ pub enum Progress {
     Refused,
 }
 
-// What a block came to: how many of its bytes are done with, how many were printed, and the lines among them.
+// What a step came to: how many of its bytes are done with, how many were printed, and how many lines there are and are
+// refused.
 pub struct Step {
     pub progress: Progress,
     pub used: usize,
@@ -46,8 +49,12 @@ pub struct Step {
 
 pub enum BlockAnswer {
     Stepped(Step),
-    Refused(Refusal),
+    // 12: there might not be room for what is printed.
+    Refused(u32),
 }
+
+// The packet of the longest line has fewer bytes: two digits spell one.
+const SPACE: usize = TEXT_MOST / 2;
 
 // The lines after line one, from index from on.
 fn step_lines(
@@ -57,32 +64,35 @@ fn step_lines(
     space: &mut [u8],
     out: &mut [u8],
 ) -> Step
-    requires { ⌜ (from ≤ length (now bytes)) × ((8 * (length (now bytes) - from) ≤ length (now out)) × (8266 ≤ 2 * length (now space))) ⌝ }
-    ensures { λ r. ⌜ (r ≡ stepIn (stepLines settings (completeLines (drop from (now (bytes .entry)))) (unended (drop from (now (bytes .entry))))) (length (now (bytes .entry)))) × (now (out .exit) ≡ put 0 (stepLines settings (completeLines (drop from (now (bytes .entry)))) (unended (drop from (now (bytes .entry)))) .decoding .output) (now (out .entry))) ⌝ }
+    requires { ⌜ from ≤ length (now bytes) ⌝ }
+    requires { ⌜ printedEach * (length (now bytes) - from) ≤ length (now out) ⌝ }
+    requires { ⌜ textMost ≤ 2 * length (now space) ⌝ }
+    ensures answer { λ r. ⌜ r ≡ stepIn (linesStep settings (now (bytes .entry)) from) (length (now (bytes .entry))) ⌝ }
+    ensures output { λ r. ⌜ now (out .exit) ≡ printedStep (linesStep settings (now (bytes .entry)) from) (now (out .entry)) ⌝ }
 {
-    let t = decode_lines(settings, bytes, from, space, out);
-    if TEXT_MOST < bytes.len() - t.used {
-        let written = put_code(13, t.written, out);
+    let tally = decode_lines(settings, bytes, from, space, out);
+    if TEXT_MOST < bytes.len() - tally.used {
+        let written = put_code(13, tally.written, out);
         return Step {
             progress: Progress::Skipping(settings),
             used: bytes.len(),
             written: written,
-            lines: t.lines + 1,
-            refused: t.refused + 1,
+            lines: tally.lines + 1,
+            refused: tally.refused + 1,
         };
     }
     Step {
         progress: Progress::Lines(settings),
-        used: t.used,
-        written: t.written,
-        lines: t.lines,
-        refused: t.refused,
+        used: tally.used,
+        written: tally.written,
+        lines: tally.lines,
+        refused: tally.refused,
     }
 }
 
 // A step that prints nothing.
 fn silent(progress: Progress, used: usize) -> Step
-    ensures { λ r. ⌜ r ≡ record { progress = progress; used = used; written = 0; lines = 0; refused = 0 } ⌝ }
+    ensures { λ r. ⌜ r ≡ silentStep progress used ⌝ }
 {
     Step {
         progress: progress,
@@ -95,7 +105,8 @@ fn silent(progress: Progress, used: usize) -> Step
 
 // A step over all of bytes that prints a number alone, for so many lines.
 fn print_number(progress: Progress, bytes: &[u8], number: u32, lines: usize, out: &mut [u8]) -> Step
-    ensures { λ r. ⌜ (r ≡ record { progress = progress; used = length (now (bytes .entry)); written = after 0 (codeLine number) (now (out .entry)); lines = lines; refused = lines }) × (now (out .exit) ≡ laid 0 (codeLine number) (now (out .entry))) ⌝ }
+    ensures answer { λ r. ⌜ r ≡ numberStep progress (length (now (bytes .entry))) number lines (now (out .entry)) ⌝ }
+    ensures output { λ r. ⌜ now (out .exit) ≡ laid 0 (codeLine number) (now (out .entry)) ⌝ }
 {
     let written = put_code(number, 0, out);
     Step {
@@ -109,11 +120,14 @@ fn print_number(progress: Progress, bytes: &[u8], number: u32, lines: usize, out
 
 // Line one, up to index end, and what follows it.
 fn step_header(bytes: &[u8], end: usize, space: &mut [u8], out: &mut [u8]) -> Step
-    requires { ⌜ (1 ≤ end) × ((end ≤ length (now bytes)) × ((8 * length (now bytes) ≤ length (now out)) × (8266 ≤ 2 * length (now space)))) ⌝ }
-    ensures { λ r. ⌜ (r ≡ stepIn (stepHeader (headerLine (take (end - 1 - 0) (drop 0 (now (bytes .entry))))) (completeLines (drop end (now (bytes .entry)))) (unended (drop end (now (bytes .entry))))) (length (now (bytes .entry)))) × (now (out .exit) ≡ put 0 (stepHeader (headerLine (take (end - 1 - 0) (drop 0 (now (bytes .entry))))) (completeLines (drop end (now (bytes .entry)))) (unended (drop end (now (bytes .entry)))) .decoding .output) (now (out .entry))) ⌝ }
+    requires { ⌜ (1 ≤ end) × (end ≤ length (now bytes)) ⌝ }
+    requires { ⌜ printedEach * length (now bytes) ≤ length (now out) ⌝ }
+    requires { ⌜ textMost ≤ 2 * length (now space) ⌝ }
+    ensures answer { λ r. ⌜ r ≡ stepIn (headerStep (now (bytes .entry)) end) (length (now (bytes .entry))) ⌝ }
+    ensures output { λ r. ⌜ now (out .exit) ≡ printedStep (headerStep (now (bytes .entry)) end) (now (out .entry)) ⌝ }
 {
-    let h = header_line(part(bytes, 0, end - 1));
-    match h {
+    let line = header_line(part(bytes, 0, end - 1));
+    match line {
         HeaderLine::Bad => print_number(Progress::Refused, bytes, 11, 0, out),
         HeaderLine::Good(header) => {
             let settings = header.settings;
@@ -123,8 +137,10 @@ fn step_header(bytes: &[u8], end: usize, space: &mut [u8], out: &mut [u8]) -> St
 }
 
 fn step_first(bytes: &[u8], space: &mut [u8], out: &mut [u8]) -> Step
-    requires { ⌜ (8 * length (now bytes) ≤ length (now out)) × (8266 ≤ 2 * length (now space)) ⌝ }
-    ensures { λ r. ⌜ (r ≡ stepIn (stepFirst (completeLines (now (bytes .entry))) (unended (now (bytes .entry)))) (length (now (bytes .entry)))) × (now (out .exit) ≡ put 0 (stepFirst (completeLines (now (bytes .entry))) (unended (now (bytes .entry))) .decoding .output) (now (out .entry))) ⌝ }
+    requires { ⌜ printedEach * length (now bytes) ≤ length (now out) ⌝ }
+    requires { ⌜ textMost ≤ 2 * length (now space) ⌝ }
+    ensures answer { λ r. ⌜ r ≡ stepIn (firstStep (now (bytes .entry))) (length (now (bytes .entry))) ⌝ }
+    ensures output { λ r. ⌜ now (out .exit) ≡ printedStep (firstStep (now (bytes .entry))) (now (out .entry)) ⌝ }
 {
     let line = next_line(bytes, 0);
     match line {
@@ -140,8 +156,10 @@ fn step_first(bytes: &[u8], space: &mut [u8], out: &mut [u8]) -> Step
 }
 
 fn step_skipping(settings: Settings, bytes: &[u8], space: &mut [u8], out: &mut [u8]) -> Step
-    requires { ⌜ (8 * length (now bytes) ≤ length (now out)) × (8266 ≤ 2 * length (now space)) ⌝ }
-    ensures { λ r. ⌜ (r ≡ stepIn (stepSkipping settings (completeLines (now (bytes .entry))) (unended (now (bytes .entry)))) (length (now (bytes .entry)))) × (now (out .exit) ≡ put 0 (stepSkipping settings (completeLines (now (bytes .entry))) (unended (now (bytes .entry))) .decoding .output) (now (out .entry))) ⌝ }
+    requires { ⌜ printedEach * length (now bytes) ≤ length (now out) ⌝ }
+    requires { ⌜ textMost ≤ 2 * length (now space) ⌝ }
+    ensures answer { λ r. ⌜ r ≡ stepIn (skippingStep settings (now (bytes .entry))) (length (now (bytes .entry))) ⌝ }
+    ensures output { λ r. ⌜ now (out .exit) ≡ printedStep (skippingStep settings (now (bytes .entry))) (now (out .entry)) ⌝ }
 {
     let line = next_line(bytes, 0);
     match line {
@@ -152,8 +170,10 @@ fn step_skipping(settings: Settings, bytes: &[u8], space: &mut [u8], out: &mut [
 }
 
 fn step_within(progress: Progress, bytes: &[u8], space: &mut [u8], out: &mut [u8]) -> Step
-    requires { ⌜ (8 * length (now bytes) ≤ length (now out)) × (8266 ≤ 2 * length (now space)) ⌝ }
-    ensures { λ r. ⌜ (r ≡ stepIn (stepOf progress (now (bytes .entry))) (length (now (bytes .entry)))) × (now (out .exit) ≡ put 0 (stepOf progress (now (bytes .entry)) .decoding .output) (now (out .entry))) ⌝ }
+    requires { ⌜ printedEach * length (now bytes) ≤ length (now out) ⌝ }
+    requires { ⌜ textMost ≤ 2 * length (now space) ⌝ }
+    ensures answer { λ r. ⌜ r ≡ stepIn (stepOf progress (now (bytes .entry))) (length (now (bytes .entry))) ⌝ }
+    ensures output { λ r. ⌜ now (out .exit) ≡ printedStep (stepOf progress (now (bytes .entry))) (now (out .entry)) ⌝ }
 {
     match progress {
         Progress::First => step_first(bytes, space, out),
@@ -163,27 +183,23 @@ fn step_within(progress: Progress, bytes: &[u8], space: &mut [u8], out: &mut [u8
     }
 }
 
-fn short() -> BlockAnswer
-    ensures { λ r. ⌜ r ≡ BlockAnswer.Refused (record { number = 12 }) ⌝ }
-{
-    BlockAnswer::Refused(Refusal { number: 12 })
-}
-
-// Decodes what is complete in bytes: what the step before left, with a block behind it. What is printed goes over the front of out, which needs
-// room for 8 bytes for each byte that is given; with less the number is 12.
+// Decodes what is complete in bytes: what the step before left, with a block behind it. What is printed goes over the
+// front of out, which needs room for PRINTED_EACH bytes for each byte that is given; with less the number is 12.
 pub fn decode_block(progress: Progress, bytes: &[u8], out: &mut [u8]) -> BlockAnswer
-    ensures { λ r. ⌜ (r ≡ stepAnswer progress (now (bytes .entry)) (now (out .entry))) × (now (out .exit) ≡ stepOver progress (now (bytes .entry)) (now (out .entry))) ⌝ }
+    ensures answer { λ r. ⌜ r ≡ stepAnswer progress (now (bytes .entry)) (now (out .entry)) ⌝ }
+    ensures output { λ r. ⌜ now (out .exit) ≡ stepOver progress (now (bytes .entry)) (now (out .entry)) ⌝ }
 {
-    if out.len() / 8 < bytes.len() {
-        return short();
+    if out.len() / PRINTED_EACH < bytes.len() {
+        return BlockAnswer::Refused(12);
     }
-    let mut space = [0u8; 4133];
+    let mut space = [0u8; SPACE];
     BlockAnswer::Stepped(step_within(progress, bytes, &mut space, out))
 }
 
 fn end_within(progress: Progress, rest: &[u8], out: &mut [u8]) -> Step
-    requires { ⌜ 8 ≤ length (now out) ⌝ }
-    ensures { λ r. ⌜ (r ≡ stepIn (ending progress (now (rest .entry))) (length (now (rest .entry)))) × (now (out .exit) ≡ put 0 (endOf progress (now (rest .entry)) .output) (now (out .entry))) ⌝ }
+    requires { ⌜ printedEach ≤ length (now out) ⌝ }
+    ensures answer { λ r. ⌜ r ≡ stepIn (ending progress (now (rest .entry))) (length (now (rest .entry))) ⌝ }
+    ensures output { λ r. ⌜ now (out .exit) ≡ put 0 (endOf progress (now (rest .entry)) .output) (now (out .entry)) ⌝ }
 {
     match progress {
         Progress::First => print_number(Progress::First, rest, 11, 0, out),
@@ -198,12 +214,14 @@ fn end_within(progress: Progress, rest: &[u8], out: &mut [u8]) -> Step
     }
 }
 
-// What is printed at the end of the input, before the totals; rest is what the last step left. With room for less than 8 bytes the number is 12.
+// Prints what the end of the input gives, before the totals; rest is what the last step left. With room for fewer than
+// PRINTED_EACH bytes the number is 12.
 pub fn decode_end(progress: Progress, rest: &[u8], out: &mut [u8]) -> BlockAnswer
-    ensures { λ r. ⌜ (r ≡ endAnswer progress (now (rest .entry)) (now (out .entry))) × (now (out .exit) ≡ endOver progress (now (rest .entry)) (now (out .entry))) ⌝ }
+    ensures answer { λ r. ⌜ r ≡ endAnswer progress (now (rest .entry)) (now (out .entry)) ⌝ }
+    ensures output { λ r. ⌜ now (out .exit) ≡ endOver progress (now (rest .entry)) (now (out .entry)) ⌝ }
 {
-    if out.len() < 8 {
-        return short();
+    if out.len() < PRINTED_EACH {
+        return BlockAnswer::Refused(12);
     }
     BlockAnswer::Stepped(end_within(progress, rest, out))
 }
@@ -219,15 +237,17 @@ fn totals_follow(progress: Progress) -> bool
     }
 }
 
-// The totals, where they follow, laid into out from index at on, and the index after them; at and nothing laid where they do not fit.
-pub fn put_totals_after(
+// Prints the totals, where they follow: laid into out from index at on, and the index after them; at and nothing laid
+// where they do not fit.
+pub fn put_totals_of(
     progress: Progress,
     lines: u64,
     refused: u64,
     at: usize,
     out: &mut [u8],
 ) -> usize
-    ensures { λ r. ⌜ (r ≡ after at (totalsOf progress lines refused) (now (out .entry))) × (now (out .exit) ≡ laid at (totalsOf progress lines refused) (now (out .entry))) ⌝ }
+    ensures answer { λ r. ⌜ r ≡ after at (totalsOf progress lines refused) (now (out .entry)) ⌝ }
+    ensures output { λ r. ⌜ now (out .exit) ≡ laid at (totalsOf progress lines refused) (now (out .entry)) ⌝ }
 {
     if !totals_follow(progress) {
         return at;

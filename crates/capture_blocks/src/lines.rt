@@ -1,42 +1,26 @@
 // The complete lines of a block, after line one.
-use capture::packet_line::PacketLine;
-use capture::packet_line::packet_line;
+use capture_decode::PRINTED_FRONT;
+use capture_decode::packet_read;
 use capture_lines::NextLine;
 use capture_lines::next_line;
+use capture_print::LineAnswer;
 use capture_print::put_answer;
 use text::words::part;
-use tlp::refusal::Refusal;
 use tlp::settings::Settings;
 use tlp_read::ReadAnswer;
-use tlp_read::read;
 ghost use mathlib.Core.Path.{_≡_};
 ghost use Prim.Native.Nat.{_+_, _-_, _*_, _≤_};
 ghost use lib.ListN.{length};
 ghost use Rattle.bits.specs.Put.{put};
-ghost use Rattle.text.specs.Laid.{laid, after};
-ghost use mathlib.Core.Bool.{true, false};
+ghost use Rattle.text.specs.Laid.{laid};
+ghost use Rattle.capture_lines.specs.Lines.{textMost};
 ghost use Rattle.capture_print.specs.Outputs.{outputLine};
-ghost use Rattle.capture.specs.PacketLines.{packetLine};
-ghost use Rattle.capture.specs.Decode.{packetRead, refusedCount};
-ghost use Rattle.capture_blocks.specs.Answers.{lineDone, lineOver, decodedFrom, tallyFrom};
+ghost use Rattle.capture_decode.specs.Decode.{readRefused, refusedCount};
+ghost use Rattle.capture_decode.specs.Printed.{printedEach};
+ghost use Rattle.capture_blocks.specs.Inner.Lines.{printedLine, incompleteLine, lineDone, lineOver, decodedFrom, tallyFrom};
 
-// No more of a packet's bytes are looked at for what is printed.
-const FRONT: usize = 16;
-
-// What a line's text gives, but for what is not printed. Of the packet's bytes only the front is put into the space, which has room for all.
-fn packet_read(settings: Settings, text: &[u8], space: &mut [u8]) -> ReadAnswer
-    requires { ⌜ length (now text) ≤ 2 * length (now space) ⌝ }
-    ensures { λ r. ⌜ (outputLine r ≡ outputLine (packetRead settings (packetLine (now (text .entry))))) × ((refusedCount r ≡ refusedCount (packetRead settings (packetLine (now (text .entry))))) × (length (now (space .exit)) ≡ length (now (space .entry)))) ⌝ }
-{
-    let line = packet_line(text, FRONT, space);
-    match line {
-        PacketLine::Refused(r) => ReadAnswer::Refused(r),
-        PacketLine::Packet(e) => read(settings, part(space, 0, e.size)),
-    }
-}
-
-fn refused_count(answer: ReadAnswer) -> usize
-    ensures { λ r. ⌜ r ≡ refusedCount answer ⌝ }
+fn read_refused(answer: ReadAnswer) -> usize
+    ensures { λ r. ⌜ r ≡ readRefused answer ⌝ }
 {
     match answer {
         ReadAnswer::Accepted(p) => 0,
@@ -44,7 +28,18 @@ fn refused_count(answer: ReadAnswer) -> usize
     }
 }
 
-// A line: whether it is complete, the index after it, the index after what was printed for it, and 1 where it is refused.
+fn refused_count(answer: LineAnswer) -> usize
+    ensures { λ r. ⌜ r ≡ refusedCount answer ⌝ }
+{
+    match answer {
+        LineAnswer::Read(a) => read_refused(a),
+        LineAnswer::Bad => 1,
+        LineAnswer::Refused(number) => 1,
+    }
+}
+
+// A line: whether it is complete, the index of the next line, the end of what was printed for it, and 1 where it is
+// refused.
 pub(crate) struct LineDone {
     pub complete: bool,
     pub end: usize,
@@ -52,8 +47,9 @@ pub(crate) struct LineDone {
     pub refused: usize,
 }
 
-fn print_line(answer: ReadAnswer, end: usize, at: usize, out: &mut [u8]) -> LineDone
-    ensures { λ r. ⌜ (r ≡ record { complete = true; end = end; written = after at (outputLine answer) (now (out .entry)); refused = refusedCount answer }) × (now (out .exit) ≡ laid at (outputLine answer) (now (out .entry))) ⌝ }
+fn print_line(answer: LineAnswer, end: usize, at: usize, out: &mut [u8]) -> LineDone
+    ensures answer { λ r. ⌜ r ≡ printedLine answer end at (now (out .entry)) ⌝ }
+    ensures output { λ r. ⌜ now (out .exit) ≡ laid at (outputLine answer) (now (out .entry)) ⌝ }
 {
     let written = put_answer(answer, at, out);
     LineDone {
@@ -66,7 +62,7 @@ fn print_line(answer: ReadAnswer, end: usize, at: usize, out: &mut [u8]) -> Line
 
 // No complete line is left.
 fn incomplete(place: usize, at: usize) -> LineDone
-    ensures { λ r. ⌜ r ≡ record { complete = false; end = place; written = at; refused = 0 } ⌝ }
+    ensures { λ r. ⌜ r ≡ incompleteLine place at ⌝ }
 {
     LineDone {
         complete: false,
@@ -76,7 +72,7 @@ fn incomplete(place: usize, at: usize) -> LineDone
     }
 }
 
-// The line at a place, printed from index at on.
+// The line at a place, printed from index at on. The space has room for the packet of the longest line.
 fn line_at(
     settings: Settings,
     bytes: &[u8],
@@ -85,20 +81,18 @@ fn line_at(
     space: &mut [u8],
     out: &mut [u8],
 ) -> LineDone
-    requires { ⌜ (place ≤ length (now bytes)) × ((at + 8 * (length (now bytes) - place) ≤ length (now out)) × (8266 ≤ 2 * length (now space))) ⌝ }
-    ensures { λ r. ⌜ (r ≡ lineDone settings (now (bytes .entry)) place at) × ((now (out .exit) ≡ lineOver settings (now (bytes .entry)) place at (now (out .entry))) × ((length (now (space .exit)) ≡ length (now (space .entry))) × (r .refused ≤ 1))) ⌝ }
+    requires { ⌜ place ≤ length (now bytes) ⌝ }
+    requires { ⌜ at + printedEach * (length (now bytes) - place) ≤ length (now out) ⌝ }
+    requires { ⌜ textMost ≤ 2 * length (now space) ⌝ }
+    ensures answer { λ r. ⌜ (r ≡ lineDone settings (now (bytes .entry)) place at) × (r .refused ≤ 1) ⌝ }
+    ensures output { λ r. ⌜ now (out .exit) ≡ lineOver settings (now (bytes .entry)) place at (now (out .entry)) ⌝ }
 {
     let line = next_line(bytes, place);
     match line {
         NextLine::Unended { end } => incomplete(place, at),
-        NextLine::OverLong { end } => print_line(
-            ReadAnswer::Refused(Refusal { number: 13 }),
-            end,
-            at,
-            out,
-        ),
+        NextLine::OverLong { end } => print_line(LineAnswer::Bad, end, at, out),
         NextLine::Ended { end } => print_line(
-            packet_read(settings, part(bytes, place, end - 1), space),
+            packet_read(settings, part(bytes, place, end - 1), PRINTED_FRONT, space),
             end,
             at,
             out,
@@ -106,7 +100,7 @@ fn line_at(
     }
 }
 
-// What complete lines come to: the index after them, how many bytes were printed, and how many lines there are.
+// What complete lines come to: the end of them and of what was printed, and how many lines there are and are refused.
 pub(crate) struct Tally {
     pub used: usize,
     pub written: usize,
@@ -125,7 +119,8 @@ fn tallied(used: usize, written: usize, lines: usize, refused: usize) -> Tally
     }
 }
 
-// Decodes the complete lines from index from on.
+// Decodes the complete lines from index from on: up to index place they are done, and printed up to index at; so many
+// lines were done, and so many of them refused.
 pub(crate) fn decode_lines(
     settings: Settings,
     bytes: &[u8],
@@ -133,23 +128,27 @@ pub(crate) fn decode_lines(
     space: &mut [u8],
     out: &mut [u8],
 ) -> Tally
-    requires { ⌜ (from ≤ length (now bytes)) × ((8 * (length (now bytes) - from) ≤ length (now out)) × (8266 ≤ 2 * length (now space))) ⌝ }
-    ensures { λ r. ⌜ (r ≡ tallyFrom settings (now (bytes .entry)) from) × (now (out .exit) ≡ put 0 (decodedFrom settings (now (bytes .entry)) from .output) (now (out .entry))) ⌝ }
-    ensures { λ r. ⌜ (r .written + 8 * (length (now (bytes .entry)) - r .used) ≤ length (now (out .entry))) × ((r .lines ≤ r .used) × ((r .refused ≤ r .lines) × (r .used ≤ length (now (bytes .entry))))) ⌝ }
+    requires { ⌜ from ≤ length (now bytes) ⌝ }
+    requires { ⌜ printedEach * (length (now bytes) - from) ≤ length (now out) ⌝ }
+    requires { ⌜ textMost ≤ 2 * length (now space) ⌝ }
+    ensures answer { λ r. ⌜ r ≡ tallyFrom settings (now (bytes .entry)) from ⌝ }
+    ensures output { λ r. ⌜ now (out .exit) ≡ put 0 (decodedFrom settings (now (bytes .entry)) from .output) (now (out .entry)) ⌝ }
+    ensures room { λ r. ⌜ r .written + printedEach * (length (now (bytes .entry)) - r .used) ≤ length (now (out .entry)) ⌝ }
+    ensures counts { λ r. ⌜ (r .lines ≤ r .used) × (r .refused ≤ r .lines) × (r .used ≤ length (now (bytes .entry))) ⌝ }
 {
     let mut place = from;
     let mut at: usize = 0;
     let mut lines: usize = 0;
     let mut refused: usize = 0;
     while place < bytes.len() {
-        let l = line_at(settings, bytes, place, at, space, out);
-        if !l.complete {
+        let line = line_at(settings, bytes, place, at, space, out);
+        if !line.complete {
             return tallied(place, at, lines, refused);
         }
-        place = l.end;
-        at = l.written;
+        place = line.end;
+        at = line.written;
         lines += 1;
-        refused += l.refused;
+        refused += line.refused;
     }
     tallied(place, at, lines, refused)
 }

@@ -1,5 +1,6 @@
--- Document 01, Captures: lines are "newline ended", and a line "has at most 8,267 bytes with its newline". What a reader must believe: completeLines,
--- unended and overLong, of which a capture's decoding is made; and nextLine, what next_line answers.
+-- Document 01, Captures: lines are "newline ended", and a line "has at most 8,267 bytes with its newline". What a
+-- reader must believe: completeLines, unended and overLong, of which a capture's decoding is made; and nextLine, what
+-- next_line answers.
 use Prim.Native.Nat.{ℕ, suc, _+_, min}
 use mathlib.Core.Path.{_≡_, refl}
 use mathlib.Core.Bool.{Bool, true, false}

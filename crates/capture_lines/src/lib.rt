@@ -19,8 +19,8 @@ pub enum NextLine {
     Unended { end: usize },
 }
 
-// Whether there is a newline. It looks at every byte, even behind a newline, so that it looks at many at once; found: whether one stands before
-// index i.
+// Whether there is a newline. It looks at every byte, even behind a newline, so that it looks at many at once; found:
+// whether one stands before index i.
 fn has_newline(bytes: &[u8]) -> bool
     ensures { λ r. ⌜ r ≡ ltb (lineLength (now (bytes .entry))) (length (now (bytes .entry))) ⌝ }
 {
@@ -36,8 +36,8 @@ fn has_newline(bytes: &[u8]) -> bool
 // So many bytes are looked at together.
 const CHUNK: usize = 32;
 
-// An index from which on the first newline is found as from index from. No newline stands from index from up to index i, where the next chunk
-// begins.
+// An index from which on the first newline is found as from index from. No newline stands from index from up to index
+// i, where the next chunk begins.
 fn skipped_from(bytes: &[u8], from: usize) -> usize
     requires { ⌜ from ≤ length (now bytes) ⌝ }
     ensures within { λ r. ⌜ r ≤ length (now (bytes .entry)) ⌝ }

@@ -33,7 +33,10 @@ use Rattle.tlp_read.specs.declared.ReadAnswer.the-variants.{Accepted, Refused}
 use Rattle.tlp_read.specs.Fields.{packetAt}
 use Rattle.tlp_read.specs.Read.{readRows, answerOf, readPacket}
 use Rattle.capture_print.specs.Words.{codeKey, acceptedKey, tagKey, dwKey, linesKey, refusedKey, newline, kindWord}
-use Rattle.capture_print.specs.Outputs.{tagIn, codeLine, packetOutput, outputLine, totalsLine}
+use Rattle.capture_print.specs.Outputs.{tagIn, codeLine, packetOutput, readOutput, outputLine, totalsLine}
+use Rattle.capture_print.specs.Inner.Texts.{outputMost, afterTwo, laidTwo}
+use Rattle.capture_print.specs.declared.LineAnswer.{LineAnswer}
+use Rattle.capture_print.specs.declared.LineAnswer.the-variants.{Read, Bad, Refused as Unlaid}
 
 -- ---- how long a line is at most
 
@@ -86,31 +89,31 @@ totals-most lines refused = simp length-append (omega (arith, text-most 10 lines
 -- ---- a line in its own room
 
 -- two texts one after another, and what follows them
-module _ (at : ℕ) (s d t out : List ℕ) (h : at + length (s ++ (d ++ t)) ≤ length out) (a : ℕ) (l : List ℕ) (e : a ≡ after (after at s out) d (laid at s out)) (f : l ≡ laid (after at s out) d (laid at s out)) where
-  fits-second : after at s out + length (d ++ t) ≤ length (laid at s out)
-  fits-second = fits-next at s (d ++ t) out h (after at s out) (laid at s out) refl refl
+module _ (at : ℕ) (key d t out : List ℕ) (h : at + length (key ++ (d ++ t)) ≤ length out) (a : ℕ) (l : List ℕ) (e : a ≡ afterTwo at key d out) (f : l ≡ laidTwo at key d out) where
+  fits-second : after at key out + length (d ++ t) ≤ length (laid at key out)
+  fits-second = fits-next at key (d ++ t) out h (after at key out) (laid at key out) refl refl
 
   fits-third : a + length t ≤ length l
-  fits-third = fits-next (after at s out) d t (laid at s out) fits-second a l e f
+  fits-third = fits-next (after at key out) d t (laid at key out) fits-second a l e f
 
-  after-third : (b : ℕ) → b ≡ after a t l → b ≡ after at (s ++ (d ++ t)) out
+  after-third : (b : ℕ) → b ≡ after a t l → b ≡ after at (key ++ (d ++ t)) out
   after-third b g =
-      after-next at s (d ++ t) out h (after at s out) (laid at s out) refl refl b (after-next (after at s out) d t (laid at s out) fits-second a l e f b g)
+      after-next at key (d ++ t) out h (after at key out) (laid at key out) refl refl b (after-next (after at key out) d t (laid at key out) fits-second a l e f b g)
 
-  laid-third : (m : List ℕ) → m ≡ laid a t l → m ≡ laid at (s ++ (d ++ t)) out
+  laid-third : (m : List ℕ) → m ≡ laid a t l → m ≡ laid at (key ++ (d ++ t)) out
   laid-third m g =
-      laid-next at s (d ++ t) out h (after at s out) (laid at s out) refl refl m (laid-next (after at s out) d t (laid at s out) fits-second a l e f m g)
+      laid-next at key (d ++ t) out h (after at key out) (laid at key out) refl refl m (laid-next (after at key out) d t (laid at key out) fits-second a l e f m g)
 
-pub code-fits : (n : ℕ) (out : List ℕ) → length out ≡ 192 → 0 + length (codeLine n) ≤ length out
+pub code-fits : (n : ℕ) (out : List ℕ) → length out ≡ outputMost → 0 + length (codeLine n) ≤ length out
 code-fits n out z = omega (arith, code-size n, text-most 10 n)
 
-pub packet-fits : (p : Packet) (out : List ℕ) → length out ≡ 192 → 0 + length (packetOutput p) ≤ length out
+pub packet-fits : (p : Packet) (out : List ℕ) → length out ≡ outputMost → 0 + length (packetOutput p) ≤ length out
 packet-fits p out z = omega (arith, packet-most p)
 
-pub totals-fits : (lines refused : ℕ) (out : List ℕ) → length out ≡ 192 → 0 + length (totalsLine lines refused) ≤ length out
+pub totals-fits : (lines refused : ℕ) (out : List ℕ) → length out ≡ outputMost → 0 + length (totalsLine lines refused) ≤ length out
 totals-fits lines refused out z = omega (arith, totals-most lines refused)
 
-module _ (n : ℕ) (out : List ℕ) (z : length out ≡ 192) (a : ℕ) (l : List ℕ) (e : a ≡ after (after 0 codeKey out) (decimalText n) (laid 0 codeKey out)) (f : l ≡ laid (after 0 codeKey out) (decimalText n) (laid 0 codeKey out)) where
+module _ (n : ℕ) (out : List ℕ) (z : length out ≡ outputMost) (a : ℕ) (l : List ℕ) (e : a ≡ afterTwo 0 codeKey (decimalText n) out) (f : l ≡ laidTwo 0 codeKey (decimalText n) out) where
   pub code-after : (r : ℕ) → r ≡ after a newline l → r ≡ after 0 (codeLine n) out
   unfolding codeLine
   code-after r g = after-third 0 codeKey (decimalText n) newline out (code-fits n out z) a l e f r g
@@ -121,8 +124,8 @@ module _ (n : ℕ) (out : List ℕ) (z : length out ≡ 192) (a : ℕ) (l : List
 
 pub ruleset code-laws = (code-after, code-laid)
 
-module _ (lines refused : ℕ) (out : List ℕ) (z : length out ≡ 192) (a : ℕ) (l : List ℕ) (e : a ≡ after (after 0 linesKey out) (decimalText lines) (laid 0 linesKey out)) (f : l ≡ laid (after 0 linesKey out) (decimalText lines) (laid 0 linesKey out))
-    (b : ℕ) (m : List ℕ) (g : b ≡ after (after a refusedKey l) (decimalText refused) (laid a refusedKey l)) (k : m ≡ laid (after a refusedKey l) (decimalText refused) (laid a refusedKey l)) where
+module _ (lines refused : ℕ) (out : List ℕ) (z : length out ≡ outputMost) (a : ℕ) (l : List ℕ) (e : a ≡ afterTwo 0 linesKey (decimalText lines) out) (f : l ≡ laidTwo 0 linesKey (decimalText lines) out)
+    (b : ℕ) (m : List ℕ) (g : b ≡ afterTwo a refusedKey (decimalText refused) l) (k : m ≡ laidTwo a refusedKey (decimalText refused) l) where
   abbrev second : List ℕ
   second = refusedKey ++ (decimalText refused ++ newline)
 
@@ -144,10 +147,10 @@ module _ (lines refused : ℕ) (out : List ℕ) (z : length out ≡ 192) (a : �
 
 pub ruleset totals-laws = (totals-after, totals-laid)
 
-module _ (p : Packet) (out : List ℕ) (z : length out ≡ 192)
-    (t : PacketType) (et : t ≡ typeOf p) (a : ℕ) (l : List ℕ) (ea : a ≡ after (after 0 acceptedKey out) (kindWord t) (laid 0 acceptedKey out)) (el : l ≡ laid (after 0 acceptedKey out) (kindWord t) (laid 0 acceptedKey out))
-    (g : ℕ) (eg : g ≡ tagIn (p .kind)) (b : ℕ) (m : List ℕ) (eb : b ≡ after (after a tagKey l) (decimalText g) (laid a tagKey l)) (em : m ≡ laid (after a tagKey l) (decimalText g) (laid a tagKey l))
-    (x : Access) (ex : x ≡ accessOf p) (c : ℕ) (n : List ℕ) (ec : c ≡ after (after b dwKey m) (decimalText (x .length)) (laid b dwKey m)) (en : n ≡ laid (after b dwKey m) (decimalText (x .length)) (laid b dwKey m)) where
+module _ (p : Packet) (out : List ℕ) (z : length out ≡ outputMost)
+    (t : PacketType) (et : t ≡ typeOf p) (a : ℕ) (l : List ℕ) (ea : a ≡ afterTwo 0 acceptedKey (kindWord t) out) (el : l ≡ laidTwo 0 acceptedKey (kindWord t) out)
+    (g : ℕ) (eg : g ≡ tagIn (p .kind)) (b : ℕ) (m : List ℕ) (eb : b ≡ afterTwo a tagKey (decimalText g) l) (em : m ≡ laidTwo a tagKey (decimalText g) l)
+    (x : Access) (ex : x ≡ accessOf p) (c : ℕ) (n : List ℕ) (ec : c ≡ afterTwo b dwKey (decimalText (x .length)) m) (en : n ≡ laidTwo b dwKey (decimalText (x .length)) m) where
   abbrev lengthText : List ℕ
   lengthText = dwKey ++ (decimalText (x .length) ++ newline)
 
@@ -159,7 +162,7 @@ module _ (p : Packet) (out : List ℕ) (z : length out ≡ 192)
   output-is = rw (et, eg, ex)
 
   all-fits : 0 + length (acceptedKey ++ (kindWord t ++ tagText)) ≤ length out
-  all-fits = subst (λ (s : List ℕ). 0 + length s ≤ length out) (sym output-is) (packet-fits p out z)
+  all-fits = subst (λ (text : List ℕ). 0 + length text ≤ length out) (sym output-is) (packet-fits p out z)
 
   tag-fits : a + length tagText ≤ length l
   tag-fits = fits-third 0 acceptedKey (kindWord t) tagText out all-fits a l ea el
@@ -205,28 +208,60 @@ pub ruleset kind-laws = (kind-after, kind-laid)
 
 pub ruleset unlisted-laws = (kind-none, kind-same)
 
--- ---- an answer's line
+-- ---- what the reader answered
 
 module _ (answer : ReadAnswer) (at : ℕ) (out : List ℕ) where
   module _ (p : Packet) (e : answer ≡ Accepted p) where
-    pub accepted-after : (r : ℕ) → r ≡ after at (packetOutput p) out → r ≡ after at (outputLine answer) out
-    unfolding outputLine
+    pub accepted-after : (r : ℕ) → r ≡ after at (packetOutput p) out → r ≡ after at (readOutput answer) out
+    unfolding readOutput
     accepted-after r q = rw e q
 
-    pub accepted-laid : (r : List ℕ) → r ≡ laid at (packetOutput p) out → r ≡ laid at (outputLine answer) out
-    unfolding outputLine
+    pub accepted-laid : (r : List ℕ) → r ≡ laid at (packetOutput p) out → r ≡ laid at (readOutput answer) out
+    unfolding readOutput
     accepted-laid r q = rw e q
 
   module _ (f : Refusal) (e : answer ≡ Refused f) where
-    pub refused-after : (r : ℕ) → r ≡ after at (codeLine (f .number)) out → r ≡ after at (outputLine answer) out
-    unfolding outputLine
+    pub refused-after : (r : ℕ) → r ≡ after at (codeLine (f .number)) out → r ≡ after at (readOutput answer) out
+    unfolding readOutput
     refused-after r q = rw e q
 
-    pub refused-laid : (r : List ℕ) → r ≡ laid at (codeLine (f .number)) out → r ≡ laid at (outputLine answer) out
-    unfolding outputLine
+    pub refused-laid : (r : List ℕ) → r ≡ laid at (codeLine (f .number)) out → r ≡ laid at (readOutput answer) out
+    unfolding readOutput
     refused-laid r q = rw e q
 
-pub ruleset answer-laws = (accepted-after, accepted-laid, refused-after, refused-laid)
+pub ruleset read-laws = (accepted-after, accepted-laid, refused-after, refused-laid)
+
+-- ---- an answer's line
+
+module _ (answer : LineAnswer) (at : ℕ) (out : List ℕ) where
+  module _ (a : ReadAnswer) (e : answer ≡ Read a) where
+    pub read-after : (r : ℕ) → r ≡ after at (readOutput a) out → r ≡ after at (outputLine answer) out
+    unfolding outputLine
+    read-after r q = rw e q
+
+    pub read-laid : (r : List ℕ) → r ≡ laid at (readOutput a) out → r ≡ laid at (outputLine answer) out
+    unfolding outputLine
+    read-laid r q = rw e q
+
+  module _ (e : answer ≡ Bad) where
+    pub bad-after : (r : ℕ) → r ≡ after at (codeLine 13) out → r ≡ after at (outputLine answer) out
+    unfolding outputLine
+    bad-after r q = rw e q
+
+    pub bad-laid : (r : List ℕ) → r ≡ laid at (codeLine 13) out → r ≡ laid at (outputLine answer) out
+    unfolding outputLine
+    bad-laid r q = rw e q
+
+  module _ (n : ℕ) (e : answer ≡ Unlaid n) where
+    pub unlaid-after : (r : ℕ) → r ≡ after at (codeLine n) out → r ≡ after at (outputLine answer) out
+    unfolding outputLine
+    unlaid-after r q = rw e q
+
+    pub unlaid-laid : (r : List ℕ) → r ≡ laid at (codeLine n) out → r ≡ laid at (outputLine answer) out
+    unfolding outputLine
+    unlaid-laid r q = rw e q
+
+pub ruleset answer-laws = (read-after, read-laid, bad-after, bad-laid, unlaid-after, unlaid-laid)
 
 -- ---- room for what a line gives
 
@@ -245,23 +280,14 @@ first-most m [] h = zero-le
 first-most m (r ∷ rs) h =
     within-by m (r .number) (first rs) (r .holds) (leb-true (r .number) m (and-left _ _ h)) (first-most m rs (and-right (leb (r .number) m) _ h))
 
-pub read-most : (c : Settings) (s : List ℕ) → first (readRows c s) ≤ 11
-read-most c s = first-most 11 (readRows c s) refl
+pub read-most : (c : Settings) (packet : List ℕ) → first (readRows c packet) ≤ 11
+read-most c packet = first-most 11 (readRows c packet) refl
 
-answer-number : (n : ℕ) (p : Packet) (r : Refusal) → answerOf n p ≡ Refused r → r .number ≡ n
-answer-number zero p r e = let z : _≡_ {A = ℕ} 0 1 = cc in absurd (omega arith)
-answer-number (suc n) p r e = cc
-
-pub read-number : (c : Settings) (s : List ℕ) (r : Refusal) → readPacket c s ≡ Refused r → r .number ≤ 11
-unfolding readPacket
-read-number c s r e =
-    omega (arith, answer-number (first (readRows c s)) (packetAt (typeAt (byte s 0)) s) r e, read-most c s)
-
-answer-most : (n : ℕ) (p : Packet) → n ≤ 11 → length (outputLine (answerOf n p)) ≤ 156
-unfolding outputLine
+answer-most : (n : ℕ) (p : Packet) → n ≤ 11 → length (readOutput (answerOf n p)) ≤ 156
+unfolding readOutput
 answer-most zero p h = packet-most p
 answer-most (suc n) p h = omega (arith, code-length (suc n) (omega arith))
 
-pub read-line-most : (c : Settings) (s : List ℕ) → length (outputLine (readPacket c s)) ≤ 156
+pub read-line-most : (c : Settings) (packet : List ℕ) → length (readOutput (readPacket c packet)) ≤ 156
 unfolding readPacket
-read-line-most c s = answer-most (first (readRows c s)) (packetAt (typeAt (byte s 0)) s) (read-most c s)
+read-line-most c packet = answer-most (first (readRows c packet)) (packetAt (typeAt (byte packet 0)) packet) (read-most c packet)

@@ -1,4 +1,5 @@
--- The fixed words of what is printed, in bytes; each has its text above it, and the last part compares the two.
+-- The fixed words of what is printed, in bytes, as document 01's whole case and its kind table spell them: what a
+-- reader must believe. Each has its text above it, and the last part compares the two.
 use Prim.Native.Nat.{ℕ}
 use mathlib.Core.Path.{_≡_, refl}
 use mathlib.Core.List.{List, [], _∷_, map}
@@ -6,27 +7,27 @@ use Rattle.text.specs.Letters.{lettersFrom, letters}
 use Rattle.tlp.specs.declared.packet_type.PacketType.{PacketType}
 use Rattle.tlp.specs.declared.packet_type.PacketType.the-variants.{MRd32, MRd64, MWr32, MWr64, IORd, IOWr, CfgRd0, CfgWr0, CfgRd1, CfgWr1, Msg, MsgD, Cpl, CplD, Unlisted}
 
--- "code="
+-- `code=`
 abbrev pub codeKey : List ℕ
 codeKey = 99 ∷ 111 ∷ 100 ∷ 101 ∷ 61 ∷ []
 
--- "code=0 kind="
+-- `code=0 kind=`
 abbrev pub acceptedKey : List ℕ
 acceptedKey = 99 ∷ 111 ∷ 100 ∷ 101 ∷ 61 ∷ 48 ∷ 32 ∷ 107 ∷ 105 ∷ 110 ∷ 100 ∷ 61 ∷ []
 
--- " tag="
+-- ` tag=`
 abbrev pub tagKey : List ℕ
 tagKey = 32 ∷ 116 ∷ 97 ∷ 103 ∷ 61 ∷ []
 
--- " dw="
+-- ` dw=`
 abbrev pub dwKey : List ℕ
 dwKey = 32 ∷ 100 ∷ 119 ∷ 61 ∷ []
 
--- "lines="
+-- `lines=`
 abbrev pub linesKey : List ℕ
 linesKey = 108 ∷ 105 ∷ 110 ∷ 101 ∷ 115 ∷ 61 ∷ []
 
--- " refused="
+-- ` refused=`
 abbrev pub refusedKey : List ℕ
 refusedKey = 32 ∷ 114 ∷ 101 ∷ 102 ∷ 117 ∷ 115 ∷ 101 ∷ 100 ∷ 61 ∷ []
 

@@ -13,28 +13,28 @@ use Rattle.capture_blocks.proofs.StepBounds.{block-used, block-within, block-re
 
 -- ---- a step
 
-pub step-room : (p : Progress) (bytes out : List ℕ) (r : BlockAnswer) → r ≡ stepAnswer p bytes out → (s : Step) → r ≡ Stepped s
-    → (used : ℕ) → used + length bytes ≤ 70000 → used + s .used ≤ 70000
-step-room p bytes out r d s u used h = omega (arith, h, block-used p bytes out r d s u)
+pub step-room : (p : Progress) (bytes out : List ℕ) (r : BlockAnswer) → r ≡ stepAnswer p bytes out → (step : Step) → r ≡ Stepped step
+    → (used : ℕ) → used + length bytes ≤ 70000 → used + step .used ≤ 70000
+step-room p bytes out r d step u used h = omega (arith, h, block-used p bytes out r d step u)
 
-pub step-used : (used sum : ℕ) (s : Step) → sum ≡ used + s .used → (r : BlockAnswer) → r ≡ Stepped s → (p : Progress) (bytes out : List ℕ) → r ≡ stepAnswer p bytes out
+pub step-used : (used sum : ℕ) (step : Step) → sum ≡ used + step .used → (r : BlockAnswer) → r ≡ Stepped step → (p : Progress) (bytes out : List ℕ) → r ≡ stepAnswer p bytes out
     → sum ≤ used + length bytes
-step-used used sum s e r u p bytes out d = omega (arith, e, block-used p bytes out r d s u)
+step-used used sum step e r u p bytes out d = omega (arith, e, block-used p bytes out r d step u)
 
 pub ruleset step-laws = (step-room, step-used, block-within, block-refused)
 
 -- ---- the end
 
-module _ (p : Progress) (rest out : List ℕ) (r : BlockAnswer) (d : r ≡ endAnswer p rest out) (s : Step) (u : r ≡ Stepped s) (n : ℕ) (h : n ≤ 70000) where
-  pub last-lines : n + s .lines < 2 ^ 64
-  last-lines = omega (arith, h, end-lines p rest out r d s u)
+module _ (p : Progress) (rest out : List ℕ) (r : BlockAnswer) (d : r ≡ endAnswer p rest out) (step : Step) (u : r ≡ Stepped step) (n : ℕ) (h : n ≤ 70000) where
+  pub last-lines : n + step .lines < 2 ^ 64
+  last-lines = omega (arith, h, end-lines p rest out r d step u)
 
-  pub last-refused : n + s .refused < 2 ^ 64
-  last-refused = omega (arith, h, end-lines p rest out r d s u, end-refused p rest out r d s u)
+  pub last-refused : n + step .refused < 2 ^ 64
+  last-refused = omega (arith, h, end-lines p rest out r d step u, end-refused p rest out r d step u)
 
 pub ruleset end-laws = (last-lines, last-refused)
 
 -- ---- a part
 
-pub part-small : (s part : List ℕ) (from to : ℕ) → part ≡ take (to - from) (drop from s) → length s ≤ 70000 → length part ≤ 70000
-part-small s part from to e h = rw e (simp (length-take, length-drop) (omega (arith, h)))
+pub part-small : (input part : List ℕ) (from to : ℕ) → part ≡ take (to - from) (drop from input) → length input ≤ 70000 → length part ≤ 70000
+part-small input part from to e h = rw e (simp (length-take, length-drop) (omega (arith, h)))

@@ -5,7 +5,7 @@ use capture_blocks::Progress;
 use capture_blocks::Step;
 use capture_blocks::decode_block;
 use capture_blocks::decode_end;
-use capture_blocks::put_totals_after;
+use capture_blocks::put_totals_of;
 use libc::STDOUT_FILENO;
 use text::words::part;
 ghost use mathlib.Core.Path.{_≡_};
@@ -37,7 +37,11 @@ fn print(out: &[u8], n: usize) {
 }
 
 fn advanced(run: Run, step: Step) -> Run
-    requires { ⌜ (run .used + step .used ≤ 70000) × ((run .lines ≤ run .used) × ((step .lines ≤ step .used) × ((run .refused ≤ run .lines) × (step .refused ≤ step .lines)))) ⌝ }
+    requires { ⌜ run .used + step .used ≤ 70000 ⌝ }
+    requires { ⌜ run .lines ≤ run .used ⌝ }
+    requires { ⌜ step .lines ≤ step .used ⌝ }
+    requires { ⌜ run .refused ≤ run .lines ⌝ }
+    requires { ⌜ step .refused ≤ step .lines ⌝ }
     ensures { λ r. ⌜ (r .used ≡ run .used + step .used) × ((r .lines ≤ r .used) × (r .refused ≤ r .lines)) ⌝ }
 {
     let progress = step.progress;
@@ -51,14 +55,16 @@ fn advanced(run: Run, step: Step) -> Run
 
 // Decodes what the steps before left, with a block behind it.
 fn take_step(run: Run, bytes: &[u8], out: &mut [u8]) -> Run
-    requires { ⌜ (run .used + length (now bytes) ≤ 70000) × ((run .lines ≤ run .used) × (run .refused ≤ run .lines)) ⌝ }
+    requires { ⌜ run .used + length (now bytes) ≤ 70000 ⌝ }
+    requires { ⌜ run .lines ≤ run .used ⌝ }
+    requires { ⌜ run .refused ≤ run .lines ⌝ }
     ensures { λ r. ⌜ (r .used ≤ run .used + length (now (bytes .entry))) × ((r .lines ≤ r .used) × (r .refused ≤ r .lines)) ⌝ }
 {
     let progress = run.progress;
     let answer = decode_block(progress, bytes, out);
     match answer {
         // Never with these sizes: out has room for the longest block behind the longest line.
-        BlockAnswer::Refused(r) => run,
+        BlockAnswer::Refused(number) => run,
         BlockAnswer::Stepped(step) => {
             print(out, step.written);
             advanced(run, step)
@@ -89,9 +95,9 @@ fn finish(run: Run, rest: &[u8], out: &mut [u8])
     let answer = decode_end(progress, rest, out);
     match answer {
         // Never with this size of out.
-        BlockAnswer::Refused(r) => {}
+        BlockAnswer::Refused(number) => {}
         BlockAnswer::Stepped(step) => {
-            let written = put_totals_after(
+            let written = put_totals_of(
                 progress,
                 (run.lines + step.lines) as u64,
                 (run.refused + step.refused) as u64,

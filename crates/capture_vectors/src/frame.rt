@@ -8,7 +8,7 @@ ghost use Prim.Native.Nat.{_≤_};
 ghost use lib.ListN.{length};
 
 // The first line has at most 30 bytes and the capture at most 60,000.
-pub const FRAME_MOST: usize = 60030;
+pub(crate) const FRAME_MOST: usize = 60030;
 
 // Where the capture stands, and the size of its blocks: 0 for a frame of another form.
 struct Frame {
@@ -27,14 +27,14 @@ fn bad_frame() -> Frame
     }
 }
 
-fn frame_at(s: &[u8]) -> Frame
-    ensures { λ r. ⌜ r .to ≤ length (now (s .entry)) ⌝ }
+fn frame_at(input: &[u8]) -> Frame
+    ensures { λ r. ⌜ r .to ≤ length (now (input .entry)) ⌝ }
 {
-    let end = bytes::scan::find(s, 0, s.len(), b'\n');
-    if end == s.len() {
+    let end = bytes::scan::find(input, 0, input.len(), b'\n');
+    if end == input.len() {
         return bad_frame();
     }
-    let line = part(s, 0, end);
+    let line = part(input, 0, end);
     let size = decimal_after(line, line_start(), b"size=", 60000);
     let block = decimal_after(line, size, b" block=", 16384);
     if block.next != end {
@@ -42,7 +42,7 @@ fn frame_at(s: &[u8]) -> Frame
     }
     let from = end + 1;
     let count = size.value as usize;
-    if s.len() - from < count {
+    if input.len() - from < count {
         return bad_frame();
     }
     Frame {
@@ -53,19 +53,19 @@ fn frame_at(s: &[u8]) -> Frame
 }
 
 // Runs the frame and answers how many bytes it has: 0 at the end of the input, and where there is none.
-pub(crate) fn run_frame(s: &[u8], out: &mut [u8]) -> usize
-    requires { ⌜ length (now s) ≤ 70000 ⌝ }
-    ensures { λ r. ⌜ r ≤ length (now (s .entry)) ⌝ }
+pub(crate) fn run_frame(input: &[u8], out: &mut [u8]) -> usize
+    requires { ⌜ length (now input) ≤ 70000 ⌝ }
+    ensures { λ r. ⌜ r ≤ length (now (input .entry)) ⌝ }
 {
-    if s.len() == 0 {
+    if input.len() == 0 {
         return 0;
     }
-    let f = frame_at(s);
+    let f = frame_at(input);
     if f.block == 0 {
         io::write_all(STDOUT_FILENO, b"bad frame\n");
         return 0;
     }
-    run_capture(part(s, f.from, f.to), f.block, out);
+    run_capture(part(input, f.from, f.to), f.block, out);
     io::write_all(STDOUT_FILENO, b"--\n");
     f.to
 }

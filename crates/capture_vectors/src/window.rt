@@ -8,13 +8,13 @@ ghost use Prim.Native.Nat.{_-_, _≤_};
 ghost use lib.ListN.{length};
 
 // What is still to run stands from index at up to index end.
-pub struct Window {
+pub(crate) struct Window {
     pub at: usize,
     pub end: usize,
     pub more: bool,
 }
 
-pub fn empty_window() -> Window
+pub(crate) fn empty_window() -> Window
     ensures { λ r. ⌜ (r .at ≡ 0) × (r .end ≡ 0) ⌝ }
 {
     Window {
@@ -44,7 +44,9 @@ fn refill(w: Window, buf: &mut [u8]) -> Window
 
 // Runs one frame.
 pub(crate) fn take_turn(before: Window, buf: &mut [u8], out: &mut [u8]) -> Window
-    requires { ⌜ (before .at ≤ before .end) × ((before .end ≤ length (now buf)) × (length (now buf) ≡ 70000)) ⌝ }
+    requires { ⌜ before .at ≤ before .end ⌝ }
+    requires { ⌜ before .end ≤ length (now buf) ⌝ }
+    requires { ⌜ length (now buf) ≡ 70000 ⌝ }
     ensures { λ r. ⌜ (r .at ≤ r .end) × (r .end ≤ length (now (buf .entry))) ⌝ }
 {
     let w = refill(before, buf);

@@ -4,6 +4,7 @@ use mathlib.Core.Path.{_≡_}
 use mathlib.Core.List.{List}
 use native.Mathlib.Omega.{arith}
 use lib.ListN.{length, take, drop, length-take}
+use Rattle.capture_lines.specs.Lines.{textMost}
 use Rattle.capture_blocks.specs.Answers.{stepAnswer, endAnswer}
 use Rattle.capture_blocks.specs.declared.Progress.{Progress}
 use Rattle.capture_blocks.specs.declared.Step.{Step}
@@ -13,24 +14,24 @@ use Rattle.capture_blocks.proofs.StepBounds.{block-used, block-left, block-line
 
 -- ---- a step over the first n bytes
 
-module _ (p : Progress) (buf out : List ℕ) (n : ℕ) (r : BlockAnswer) (d : r ≡ stepAnswer p (take (n - 0) (drop 0 buf)) out) (s : Step) (u : r ≡ Stepped s) (h : n ≤ length buf) where
+module _ (p : Progress) (buf out : List ℕ) (n : ℕ) (r : BlockAnswer) (d : r ≡ stepAnswer p (take (n - 0) (drop 0 buf)) out) (step : Step) (u : r ≡ Stepped step) (h : n ≤ length buf) where
   size : length (take (n - 0) (drop 0 buf)) ≡ n
   size = simp length-take (omega (arith, h))
 
-  pub step-used : s .used ≤ n
-  step-used = omega (arith, size, block-used p (take (n - 0) (drop 0 buf)) out r d s u)
+  pub step-used : step .used ≤ n
+  step-used = omega (arith, size, block-used p (take (n - 0) (drop 0 buf)) out r d step u)
 
-  pub step-left : n - s .used ≤ 8266
-  step-left = omega (arith, size, block-left p (take (n - 0) (drop 0 buf)) out r d s u)
+  pub step-left : n - step .used ≤ textMost
+  step-left = omega (arith, size, block-left p (take (n - 0) (drop 0 buf)) out r d step u)
 
-  pub step-lines : n ≤ 65536 → s .lines ≤ 65536
-  step-lines few = omega (arith, few, size, block-lines p (take (n - 0) (drop 0 buf)) out r d s u)
+  pub step-lines : n ≤ 65536 → step .lines ≤ 65536
+  step-lines few = omega (arith, few, size, block-lines p (take (n - 0) (drop 0 buf)) out r d step u)
 
 pub ruleset step-laws = (step-used, step-left, step-lines, block-refused)
 
 -- ---- the end
 
-pub last-lines : (p : Progress) (rest out : List ℕ) (r : BlockAnswer) → r ≡ endAnswer p rest out → (s : Step) → r ≡ Stepped s → s .lines ≤ 65536
-last-lines p rest out r d s u = omega (arith, end-lines p rest out r d s u)
+pub last-lines : (p : Progress) (rest out : List ℕ) (r : BlockAnswer) → r ≡ endAnswer p rest out → (step : Step) → r ≡ Stepped step → step .lines ≤ 65536
+last-lines p rest out r d step u = omega (arith, end-lines p rest out r d step u)
 
 pub ruleset end-laws = (last-lines, end-refused)

@@ -8,8 +8,9 @@ use crate::turn::take_turn;
 ghost use mathlib.Core.Path.{_≡_};
 ghost use lib.ListN.{length};
 
-// A proved loop has to end. 2 to the power 47 turns of at most 65,536 lines give at most 2 to the power 63, so that no sum overflows. Each turn
-// reads at least one byte, so that they are not used up: even byte by byte they last for 128 TiB.
+// A proved loop has to end. 2 to the power 47 turns of at most 65,536 lines give at most 2 to the power 63, so that no
+// sum overflows. Each turn reads at least one byte, so that they are not used up: even byte by byte they last for 128
+// TiB.
 const TURNS: u64 = 140737488355328;
 
 // 8 bytes for each byte of the input's buffer: what decode_block asks for.

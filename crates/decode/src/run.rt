@@ -2,9 +2,10 @@
 use capture_blocks::Progress;
 use capture_blocks::Step;
 ghost use mathlib.Core.Path.{_≡_};
+ghost use Rattle.capture_lines.specs.Lines.{textMost};
 ghost use Prim.Native.Nat.{_+_, _≤_};
 
-pub struct Run {
+pub(crate) struct Run {
     pub progress: Progress,
     // How many bytes at the front of the buffer belong to a line that is not complete.
     pub kept: usize,
@@ -15,7 +16,8 @@ pub struct Run {
     pub more: bool,
 }
 
-pub fn first_run() -> Run
+// Before the first byte.
+pub(crate) fn first_run() -> Run
     ensures { λ r. ⌜ (r .kept ≡ 0) × ((r .lines ≡ 0) × (r .refused ≡ 0)) ⌝ }
 {
     Run {
@@ -28,7 +30,7 @@ pub fn first_run() -> Run
 }
 
 // At the end of the input: the kept bytes are still to be decoded.
-pub fn ended(run: Run) -> Run
+pub(crate) fn ended(run: Run) -> Run
     ensures { λ r. ⌜ (r .kept ≡ run .kept) × ((r .lines ≡ run .lines) × (r .refused ≡ run .refused)) ⌝ }
 {
     let progress = run.progress;
@@ -42,7 +44,7 @@ pub fn ended(run: Run) -> Run
 }
 
 // After a failure: nothing more is read or printed.
-pub fn stopped() -> Run
+pub(crate) fn stopped() -> Run
     ensures { λ r. ⌜ (r .kept ≡ 0) × ((r .lines ≡ 0) × (r .refused ≡ 0)) ⌝ }
 {
     Run {
@@ -66,8 +68,12 @@ fn goes_on(progress: Progress) -> bool {
 
 // After a step that left so many bytes.
 pub(crate) fn advanced(run: Run, step: Step, kept: usize) -> Run
-    requires { ⌜ (kept ≤ 8266) × ((run .lines ≤ 9223372036854775808) × ((step .lines ≤ 65536) × ((run .refused ≤ run .lines) × (step .refused ≤ step .lines)))) ⌝ }
-    ensures { λ r. ⌜ (r .kept ≤ 8266) × ((r .lines ≤ run .lines + 65536) × (r .refused ≤ r .lines)) ⌝ }
+    requires { ⌜ kept ≤ textMost ⌝ }
+    requires { ⌜ run .lines ≤ 9223372036854775808 ⌝ }
+    requires { ⌜ step .lines ≤ 65536 ⌝ }
+    requires { ⌜ run .refused ≤ run .lines ⌝ }
+    requires { ⌜ step .refused ≤ step .lines ⌝ }
+    ensures { λ r. ⌜ (r .kept ≤ textMost) × ((r .lines ≤ run .lines + 65536) × (r .refused ≤ r .lines)) ⌝ }
 {
     let progress = step.progress;
     Run {

@@ -7,12 +7,13 @@ use bits::choice::lesser;
 use capture_blocks::BlockAnswer;
 use capture_blocks::decode_block;
 use capture_blocks::decode_end;
-use capture_blocks::put_totals_after;
+use capture_blocks::put_totals_of;
 use libc::STDIN_FILENO;
 use libc::STDOUT_FILENO;
 use text::buffer::move_to_front;
 use text::words::part;
 ghost use mathlib.Core.Path.{_≡_};
+ghost use Rattle.capture_lines.specs.Lines.{textMost};
 ghost use Prim.Native.Nat.{_+_, _≤_};
 ghost use lib.ListN.{length};
 
@@ -27,14 +28,17 @@ fn print(out: &[u8], n: usize) -> bool {
 
 // Decodes the first n bytes of buf, prints what they gave, and keeps what they left at the front.
 fn take_step(run: Run, buf: &mut [u8], n: usize, out: &mut [u8]) -> Run
-    requires { ⌜ (n ≤ length (now buf)) × ((n ≤ 65536) × ((run .lines ≤ 9223372036854775808) × (run .refused ≤ run .lines))) ⌝ }
-    ensures { λ r. ⌜ (r .kept ≤ 8266) × ((r .lines ≤ run .lines + 65536) × (r .refused ≤ r .lines)) ⌝ }
+    requires { ⌜ n ≤ length (now buf) ⌝ }
+    requires { ⌜ n ≤ 65536 ⌝ }
+    requires { ⌜ run .lines ≤ 9223372036854775808 ⌝ }
+    requires { ⌜ run .refused ≤ run .lines ⌝ }
+    ensures { λ r. ⌜ (r .kept ≤ textMost) × ((r .lines ≤ run .lines + 65536) × (r .refused ≤ r .lines)) ⌝ }
 {
     let progress = run.progress;
     let answer = decode_block(progress, &buf[0..n], out);
     match answer {
         // Never with these sizes: out has room for whatever is in buf.
-        BlockAnswer::Refused(r) => stopped(),
+        BlockAnswer::Refused(number) => stopped(),
         BlockAnswer::Stepped(step) => {
             if !print(out, step.written) {
                 return stopped();
@@ -47,8 +51,11 @@ fn take_step(run: Run, buf: &mut [u8], n: usize, out: &mut [u8]) -> Run
 
 // Reads once, behind the bytes that are kept, and decodes.
 pub(crate) fn take_turn(run: Run, buf: &mut [u8], out: &mut [u8]) -> Run
-    requires { ⌜ (length (now buf) ≡ 65536) × ((run .kept ≤ 8266) × ((run .lines ≤ 9223372036854775808) × (run .refused ≤ run .lines))) ⌝ }
-    ensures { λ r. ⌜ (r .kept ≤ 8266) × ((r .lines ≤ run .lines + 65536) × (r .refused ≤ r .lines)) ⌝ }
+    requires { ⌜ length (now buf) ≡ 65536 ⌝ }
+    requires { ⌜ run .kept ≤ textMost ⌝ }
+    requires { ⌜ run .lines ≤ 9223372036854775808 ⌝ }
+    requires { ⌜ run .refused ≤ run .lines ⌝ }
+    ensures { λ r. ⌜ (r .kept ≤ textMost) × ((r .lines ≤ run .lines + 65536) × (r .refused ≤ r .lines)) ⌝ }
 {
     let kept = run.kept;
     let answered = libc::read(STDIN_FILENO, &mut buf[kept..]);
@@ -71,10 +78,10 @@ pub(crate) fn finish(run: Run, buf: &[u8], out: &mut [u8])
     let answer = decode_end(progress, part(buf, 0, run.kept), out);
     match answer {
         // Never with this size of out.
-        BlockAnswer::Refused(r) => {}
+        BlockAnswer::Refused(number) => {}
         BlockAnswer::Stepped(step) => {
             let last = advanced(run, step, 0);
-            let written = put_totals_after(progress, last.lines, last.refused, step.written, out);
+            let written = put_totals_of(progress, last.lines, last.refused, step.written, out);
             print(out, written);
         }
     }

@@ -3,9 +3,6 @@ use borrow.Author.Needs.{needs}
 use Rattle.capture_blocks.proofs.decode_block.Statement.{statement}
 use Rattle.capture_blocks.proofs.decode_block.Tie as tie
 
-short-requires : tie.Need-short-requires
-short-requires c κs = search needs
-
 returns : tie.Need-returns
 returns c = (search step-answers depth 12 fits 4000, search step-answers depth 12 fits 4000)
 
@@ -25,7 +22,6 @@ pub decode-block-spec : {M : Type 1} → statement M
 decode-block-spec =
     tie.close
     (tie.spec
-    short-requires
     returns
     slice-aggregate-step-within
     step-within-requires

@@ -3,9 +3,6 @@ use borrow.Author.Needs.{needs}
 use Rattle.capture_blocks.proofs.decode_end.Statement.{statement}
 use Rattle.capture_blocks.proofs.decode_end.Tie as tie
 
-short-requires : tie.Need-short-requires
-short-requires c κs = search needs
-
 returns : tie.Need-returns
 returns c = (search end-answers depth 12 fits 4000, search end-answers depth 12 fits 4000)
 
@@ -20,4 +17,4 @@ returns-2 c = (search end-answers depth 12 fits 4000, search end-answers depth 1
 
 pub decode-end-spec : {M : Type 1} → statement M
 decode-end-spec =
-    tie.close (tie.spec short-requires returns end-within-requires same-length returns-2)
+    tie.close (tie.spec returns end-within-requires same-length returns-2)

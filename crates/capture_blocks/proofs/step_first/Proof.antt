@@ -16,7 +16,7 @@ enum-known-line-2 : tie.Need-enum-known-line-2
 enum-known-line-2 c = search needs
 
 step-header-requires : tie.Need-step-header-requires
-step-header-requires c κs = (search ended-one depth 12 fits 4000, (search ended-inside depth 12 fits 4000, (search needs, search needs)))
+step-header-requires c κs = ((search ended-one depth 12 fits 4000, search ended-inside depth 12 fits 4000), (search needs, search needs))
 
 enum-known-line-3 : tie.Need-enum-known-line-3
 enum-known-line-3 c = search needs

@@ -18,8 +18,8 @@ enum-told c = search needs
 print-number-requires : tie.Need-print-number-requires
 print-number-requires c κs = search needs
 
-enum-known-h : tie.Need-enum-known-h
-enum-known-h c = search needs
+enum-known-line : tie.Need-enum-known-line
+enum-known-line c = search needs
 
 step-lines-requires : tie.Need-step-lines-requires
 step-lines-requires c κs = search needs
@@ -48,7 +48,7 @@ step-header-spec =
     header-line-requires
     enum-told
     print-number-requires
-    enum-known-h
+    enum-known-line
     step-lines-requires
     same-length
     returns

@@ -2,11 +2,12 @@ use borrow.Author.Needs.{needs}
 use Prim.Native.Nat.{_+_, _*_, _≤_}
 use mathlib.Core.Path.{_≡_}
 use lib.ListN.{length}
+use Rattle.capture_lines.specs.Lines.{textMost}
 use Rattle.decode.proofs.main.Statement.{statement}
 use Rattle.decode.proofs.main.Tie as tie
 
 abbrev Inv-loop : tie.InvT-loop
-Inv-loop buf₀ out₀ run₀ turns₀ buf out run turns = (length buf ≡ 65536) × ((length out ≡ 524288) × ((run .kept ≤ 8266) × ((run .lines + 65536 * turns ≤ 9223372036854775808) × (run .refused ≤ run .lines))))
+Inv-loop buf₀ out₀ run₀ turns₀ buf out run turns = (length buf ≡ 65536) × ((length out ≡ 524288) × ((run .kept ≤ textMost) × ((run .lines + 65536 * turns ≤ 9223372036854775808) × (run .refused ≤ run .lines))))
 
 abbrev μ-loop : tie.MeasureT-loop
 μ-loop buf₀ out₀ run₀ turns₀ buf out run turns = turns

@@ -6,9 +6,6 @@ use Rattle.capture.proofs.packet_line.packet_line.Tie as tie
 front-of-requires : tie.Need-front-of-requires
 front-of-requires c κs = search needs
 
-refused-requires : tie.Need-refused-requires
-refused-requires c κs = search needs
-
 returns : tie.Need-returns
 returns c = (search packet-line-laws depth 12 fits 4000, search packet-line-laws depth 12 fits 4000)
 
@@ -18,20 +15,14 @@ part-requires c κs = search needs
 cast-if2 : tie.Need-cast-if2
 cast-if2 c = search needs
 
-refused-requires-2 : tie.Need-refused-requires-2
-refused-requires-2 c κs = search needs
-
 returns-2 : tie.Need-returns-2
 returns-2 c = (search packet-line-laws depth 12 fits 4000, search packet-line-laws depth 12 fits 4000)
 
 lesser-requires : tie.Need-lesser-requires
 lesser-requires c κs = search needs
 
-unlaid-number-requires : tie.Need-unlaid-number-requires
-unlaid-number-requires c κs = search needs
-
-refused-requires-3 : tie.Need-refused-requires-3
-refused-requires-3 c κs = search needs
+unlaid-answer-requires : tie.Need-unlaid-answer-requires
+unlaid-answer-requires c κs = search needs
 
 returns-3 : tie.Need-returns-3
 returns-3 c = (search packet-line-laws depth 12 fits 4000, search packet-line-laws depth 12 fits 4000)
@@ -41,9 +32,6 @@ hex-front-requires c κs = search needs
 
 enum-told : tie.Need-enum-told
 enum-told c = search needs
-
-refused-requires-4 : tie.Need-refused-requires-4
-refused-requires-4 c κs = search needs
 
 enum-known-spelled : tie.Need-enum-known-spelled
 enum-known-spelled c = search needs
@@ -65,19 +53,15 @@ packet-line-spec =
     tie.close
     (tie.spec
     front-of-requires
-    refused-requires
     returns
     part-requires
     cast-if2
-    refused-requires-2
     returns-2
     lesser-requires
-    unlaid-number-requires
-    refused-requires-3
+    unlaid-answer-requires
     returns-3
     hex-front-requires
     enum-told
-    refused-requires-4
     enum-known-spelled
     same-length
     returns-4

@@ -1,3 +1,4 @@
+use Rattle.capture_lines.specs.Lines.{textMost}
 use borrow.Author.Needs.{needs}
 use Rattle.capture_blocks.proofs.LinesLaws.{Going, loop-laws, go-measure, bound-laws}
 use native.Mathlib.Omega.{arith}
@@ -9,7 +10,7 @@ use Rattle.capture_blocks.proofs.lines.decode_lines.Tie as tie
 
 abbrev Inv-loop : tie.InvT-loop
 Inv-loop settings bytes from space₀ out₀ place₀ at₀ lines₀ refused₀ space out place at lines refused =
-    Going settings bytes from out₀ place at lines refused out × ((8266 ≤ 2 * length space) × (length space ≡ length space₀))
+    Going settings bytes from out₀ place at lines refused out × ((textMost ≤ 2 * length space) × (length space ≡ length space₀))
 
 abbrev μ-loop : tie.MeasureT-loop
 μ-loop settings bytes from space₀ out₀ place₀ at₀ lines₀ refused₀ space out place at lines refused =
@@ -31,7 +32,7 @@ same-length-2 : tie.Need-same-length-2 Inv-loop μ-loop
 same-length-2 c = search needs
 
 returns : tie.Need-returns Inv-loop μ-loop
-returns c = ((search loop-laws depth 12 fits 4000, search loop-laws depth 12 fits 4000), (search bound-laws depth 12 fits 4000, (search bound-laws depth 12 fits 4000, (search bound-laws depth 12 fits 4000, search bound-laws depth 12 fits 4000))))
+returns c = (search loop-laws depth 12 fits 4000, (search loop-laws depth 12 fits 4000, (search bound-laws depth 12 fits 4000, (search bound-laws depth 12 fits 4000, search bound-laws depth 12 fits 4000, search bound-laws depth 12 fits 4000))))
 
 add-lines : tie.Need-add-lines Inv-loop μ-loop
 add-lines c = search needs
@@ -55,7 +56,7 @@ same-length-4 : tie.Need-same-length-4 Inv-loop μ-loop
 same-length-4 c = search needs
 
 returns-2 : tie.Need-returns-2 Inv-loop μ-loop
-returns-2 c = ((search loop-laws depth 12 fits 4000, search loop-laws depth 12 fits 4000), (search bound-laws depth 12 fits 4000, (search bound-laws depth 12 fits 4000, (search bound-laws depth 12 fits 4000, search bound-laws depth 12 fits 4000))))
+returns-2 c = (search loop-laws depth 12 fits 4000, (search loop-laws depth 12 fits 4000, (search bound-laws depth 12 fits 4000, (search bound-laws depth 12 fits 4000, search bound-laws depth 12 fits 4000, search bound-laws depth 12 fits 4000))))
 
 pub decode-lines-spec : {M : Type 1} → statement M
 decode-lines-spec =

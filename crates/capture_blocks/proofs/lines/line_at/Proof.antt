@@ -1,4 +1,4 @@
-use Rattle.capture_blocks.proofs.LineAtLaws.{line-at-laws, ended-after, text-room, printed-most, incomplete-most}
+use Rattle.capture_blocks.proofs.LineAtLaws.{line-at-laws, ended-least, printed-most, incomplete-most}
 use borrow.Author.Needs.{needs}
 use Rattle.capture_blocks.proofs.lines.line_at.Statement.{statement}
 use Rattle.capture_blocks.proofs.lines.line_at.Tie as tie
@@ -22,25 +22,25 @@ enum-known-line-3 : tie.Need-enum-known-line-3
 enum-known-line-3 c = search needs
 
 sub-part : tie.Need-sub-part
-sub-part c = search (ended-after, needs) depth 12 fits 4000
+sub-part c = search (ended-least, needs) depth 12 fits 4000
 
 part-requires : tie.Need-part-requires
 part-requires c κs = search needs
 
 packet-read-requires : tie.Need-packet-read-requires
-packet-read-requires c κs = search (text-room, needs) depth 12 fits 4000
+packet-read-requires c κs = search needs
 
 print-line-requires-2 : tie.Need-print-line-requires-2
 print-line-requires-2 c κs = search needs
 
 returns : tie.Need-returns
-returns c = (search line-at-laws depth 12 fits 4000, (search line-at-laws depth 12 fits 4000, (search needs, search (printed-most, incomplete-most, needs) depth 12 fits 4000)))
+returns c = ((search line-at-laws depth 12 fits 4000, search (printed-most, incomplete-most, needs) depth 12 fits 4000), search line-at-laws depth 12 fits 4000)
 
 same-length : tie.Need-same-length
 same-length c = search needs
 
 returns-2 : tie.Need-returns-2
-returns-2 c = (search line-at-laws depth 12 fits 4000, (search line-at-laws depth 12 fits 4000, (search needs, search (printed-most, incomplete-most, needs) depth 12 fits 4000)))
+returns-2 c = ((search line-at-laws depth 12 fits 4000, search (printed-most, incomplete-most, needs) depth 12 fits 4000), search line-at-laws depth 12 fits 4000)
 
 same-length-2 : tie.Need-same-length-2
 same-length-2 c = search needs
@@ -49,7 +49,7 @@ same-length-3 : tie.Need-same-length-3
 same-length-3 c = search needs
 
 returns-3 : tie.Need-returns-3
-returns-3 c = (search line-at-laws depth 12 fits 4000, (search line-at-laws depth 12 fits 4000, (search needs, search (printed-most, incomplete-most, needs) depth 12 fits 4000)))
+returns-3 c = ((search line-at-laws depth 12 fits 4000, search (printed-most, incomplete-most, needs) depth 12 fits 4000), search line-at-laws depth 12 fits 4000)
 
 pub line-at-spec : {M : Type 1} → statement M
 line-at-spec =

@@ -12,14 +12,14 @@ enum-known-answer c = search needs
 enum-known-answer-2 : tie.Need-enum-known-answer-2
 enum-known-answer-2 c = search needs
 
-add-put-totals-after : tie.Need-add-put-totals-after
-add-put-totals-after c = record { fits = search end-laws depth 12 fits 4000 }
+add-put-totals-of : tie.Need-add-put-totals-of
+add-put-totals-of c = record { fits = search end-laws depth 12 fits 4000 }
 
-add-put-totals-after-2 : tie.Need-add-put-totals-after-2
-add-put-totals-after-2 c = record { fits = search end-laws depth 12 fits 4000 }
+add-put-totals-of-2 : tie.Need-add-put-totals-of-2
+add-put-totals-of-2 c = record { fits = search end-laws depth 12 fits 4000 }
 
-put-totals-after-requires : tie.Need-put-totals-after-requires
-put-totals-after-requires c κs = search needs
+put-totals-of-requires : tie.Need-put-totals-of-requires
+put-totals-of-requires c κs = search needs
 
 print-requires : tie.Need-print-requires
 print-requires c κs = search needs
@@ -43,9 +43,9 @@ finish-spec =
     decode-end-requires
     enum-known-answer
     enum-known-answer-2
-    add-put-totals-after
-    add-put-totals-after-2
-    put-totals-after-requires
+    add-put-totals-of
+    add-put-totals-of-2
+    put-totals-of-requires
     print-requires
     same-length
     returns

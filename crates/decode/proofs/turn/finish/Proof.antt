@@ -18,8 +18,8 @@ enum-known-answer-2 c = search needs
 advanced-requires : tie.Need-advanced-requires
 advanced-requires c κs = (search needs, (search needs, (search end-laws depth 12 fits 4000, (search needs, search end-laws depth 12 fits 4000))))
 
-put-totals-after-requires : tie.Need-put-totals-after-requires
-put-totals-after-requires c κs = search needs
+put-totals-of-requires : tie.Need-put-totals-of-requires
+put-totals-of-requires c κs = search needs
 
 print-requires : tie.Need-print-requires
 print-requires c κs = search needs
@@ -45,7 +45,7 @@ finish-spec =
     enum-known-answer
     enum-known-answer-2
     advanced-requires
-    put-totals-after-requires
+    put-totals-of-requires
     print-requires
     same-length
     returns

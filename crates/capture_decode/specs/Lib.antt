@@ -1,0 +1,4 @@
+pub mod Decode
+pub mod PacketReads
+pub mod Printed
+pub mod Cases
