@@ -14,11 +14,10 @@ use Rattle.bits.specs.Field.{field}
 use Rattle.bits.specs.Word.{byte, word, bytes}
 use Rattle.bits.proofs.ChoiceLaws.{pick-ap}
 use Rattle.byte_enables.specs.declared.Access.{Access}
-use Rattle.byte_enables.specs.Enables.{enablesAllowed}
 use Rattle.tlp.specs.Rows.{first}
 use Rattle.tlp.specs.PacketTypes.{familyOf}
 use Rattle.tlp.specs.Packets.{addressOf, memoryForm, typeIn, typeOf, accessAt, accessIn, accessOf}
-use Rattle.tlp.specs.Contents.{notPlain, ruledAsOne, crossesPage, plainBad, enablesBad, pageBad, faultRows}
+use Rattle.tlp.specs.Contents.{plainBad, enablesBad, pageBad, faultRows}
 use Rattle.tlp.specs.Inner.Contents.{memoryRows, registerRows}
 use Rattle.tlp.specs.declared.packet.Route.{Route}
 use Rattle.tlp.specs.declared.packet.Route.the-variants.{Address, Id, Implicit as Implied}
@@ -35,9 +34,7 @@ use Rattle.tlp.specs.declared.packet_type.Family.{Family}
 use Rattle.tlp.specs.declared.packet_type.Family.the-variants.{Memory}
 use Rattle.tlp_write.specs.Layout.{routing, routingIn, requestBytes, memoryAddress, configBytes, messageBytes, completionBytes, ownBytes}
 use Rattle.tlp_write.specs.Inner.Padded.{padded}
-use Rattle.tlp_write.specs.Inner.Head.{wordBytes, faultNumber, faultNumbered, IsHead}
-use Rattle.tlp_write.specs.declared.head.Fault.{Fault}
-use Rattle.tlp_write.specs.declared.head.Fault.the-variants.{None}
+use Rattle.tlp_write.specs.Inner.Head.{wordBytes, IsHead}
 use Rattle.tlp_write.specs.declared.words.Words.{Words}
 use Rattle.tlp_record.specs.Record.{requestIn, configIn, messageIn, completionIn, kindNumbered, kindIn, routeNumbered, routeIn, recordPacket}
 use Rattle.tlp_record_write.specs.Inner.Fit.{writable}
@@ -75,7 +72,7 @@ module _ (s : List ℕ) where
 
 module _ (s : List ℕ) (o : KindHead) (r : Route) (k : Kind) (er : routeIn s ≡ r) (ek : kindIn s ≡ k) where
   head-of : o .«packet_type» ≡ typeIn (addressOf r) k → o .routing ≡ routingIn r k
-      → faultNumber (o .fault) ≡ first (faultRows (familyOf (typeIn (addressOf r) k)) (accessIn (addressOf r) k) (byte s 1) (byte s 2) 0)
+      → o .fault ≡ first (faultRows (familyOf (typeIn (addressOf r) k)) (accessIn (addressOf r) k) (byte s 1) (byte s 2) 0)
       → wordBytes (o .words) ≡ padded 12 (ownBytes r k) → word 4 s 28 ≡ accessIn (addressOf r) k .length → IsKindHead o s
   unfolding typeOf accessOf recordPacket
   head-of et eg ef ew el = record {
@@ -172,7 +169,7 @@ module _ (s : List ℕ) (o : KindHead) (n : ℕ) (e : n ≡ byte s 0) where
     access-is : a ≡ accessAt (word 8 s 8) (requestIn s)
     access-is = rw (← ev, ← eq) ea
 
-    memory-head : 0 < n → n ≤ 2 → memoryFits s ≡ true → o .«packet_type» ≡ memoryType n v → o .routing ≡ 0 → faultNumber (o .fault) ≡ first (memoryRows a)
+    memory-head : 0 < n → n ≤ 2 → memoryFits s ≡ true → o .«packet_type» ≡ memoryType n v → o .routing ≡ 0 → o .fault ≡ first (memoryRows a)
         → wordBytes (o .words) ≡ padded 12 (requestBytes q ++ memoryAddress v) → IsKindHead o s
     unfolding routingIn ownBytes requestIn
     memory-head l h fits et eg ef ew = by n refl
@@ -180,7 +177,7 @@ module _ (s : List ℕ) (o : KindHead) (n : ℕ) (e : n ≡ byte s 0) where
         words : wordBytes (o .words) ≡ padded 12 (requestBytes (requestIn s) ++ memoryAddress (word 8 s 8))
         words = ew ∙ ap (λ (x : Request). padded 12 (requestBytes x ++ memoryAddress v)) eq ∙ ap (λ (x : ℕ). padded 12 (requestBytes (requestIn s) ++ memoryAddress x)) ev
 
-        faults : faultNumber (o .fault) ≡ first (memoryRows (accessAt (word 8 s 8) (requestIn s)))
+        faults : o .fault ≡ first (memoryRows (accessAt (word 8 s 8) (requestIn s)))
         faults = ef ∙ ap (λ (x : Access). first (memoryRows x)) access-is
 
         by : (m : ℕ) → n ≡ m → IsKindHead o s
@@ -188,24 +185,24 @@ module _ (s : List ℕ) (o : KindHead) (n : ℕ) (e : n ≡ byte s 0) where
         by (suc zero) k =
             head-of s o (Address (word 8 s 8)) (MemoryRead (requestIn s)) (memory-route s fits) (kind-at s 1 (sym k ∙ e))
             (et ∙ rw (k, ev)) eg
-            (memory-faults _ _ (byte s 1) (byte s 2) (faultNumber (o .fault)) (memory-family (ltb (word 8 s 8) (2 ^ 32)) MRd32 MRd64 refl refl) faults)
+            (memory-faults _ _ (byte s 1) (byte s 2) (o .fault) (memory-family (ltb (word 8 s 8) (2 ^ 32)) MRd32 MRd64 refl refl) faults)
             words refl
         by (suc (suc zero)) k =
             head-of s o (Address (word 8 s 8)) (MemoryWrite (requestIn s)) (memory-route s fits) (kind-at s 2 (sym k ∙ e))
             (et ∙ rw (k, ev)) eg
-            (memory-faults _ _ (byte s 1) (byte s 2) (faultNumber (o .fault)) (memory-family (ltb (word 8 s 8) (2 ^ 32)) MWr32 MWr64 refl refl) faults)
+            (memory-faults _ _ (byte s 1) (byte s 2) (o .fault) (memory-family (ltb (word 8 s 8) (2 ^ 32)) MWr32 MWr64 refl refl) faults)
             words refl
         by (suc (suc (suc m))) k = absurd (omega (arith, h, k))
 
     io-head : (b1 b2 : ℕ) → b1 ≡ byte s 1 → b2 ≡ byte s 2 → 2 < n → n ≤ 4 → ioFits s ≡ true → o .«packet_type» ≡ pick (eqb n 3) IORd IOWr → o .routing ≡ 0
-        → faultNumber (o .fault) ≡ first (registerRows a b1 b2 0) → wordBytes (o .words) ≡ padded 12 (requestBytes q ++ bytes 4 v) → IsKindHead o s
+        → o .fault ≡ first (registerRows a b1 b2 0) → wordBytes (o .words) ≡ padded 12 (requestBytes q ++ bytes 4 v) → IsKindHead o s
     unfolding routingIn ownBytes requestIn first plainBad enablesBad pageBad
     io-head b1 b2 e1 e2 l h fits et eg ef ew = by n refl
       where
         words : wordBytes (o .words) ≡ padded 12 (requestBytes (requestIn s) ++ bytes 4 (word 8 s 8))
         words = ew ∙ ap (λ (x : Request). padded 12 (requestBytes x ++ bytes 4 v)) eq ∙ ap (λ (x : ℕ). padded 12 (requestBytes (requestIn s) ++ bytes 4 x)) ev
 
-        faults : faultNumber (o .fault) ≡ first (registerRows (accessAt (word 8 s 8) (requestIn s)) (byte s 1) (byte s 2) 0)
+        faults : o .fault ≡ first (registerRows (accessAt (word 8 s 8) (requestIn s)) (byte s 1) (byte s 2) 0)
         faults =
             ef
             ∙ ap (λ (x : ℕ). first (registerRows a x b2 0)) e1
@@ -223,7 +220,7 @@ module _ (s : List ℕ) (o : KindHead) (n : ℕ) (e : n ≡ byte s 0) where
         by (suc (suc (suc (suc (suc m))))) k = absurd (omega (arith, h, k))
 
   config-head : (q : ConfigRequest) (i : ℕ) (a : Access) (b1 b2 : ℕ) → q ≡ configIn s → i ≡ word 2 s 14 → a ≡ accessAt 0 (q .request) → b1 ≡ byte s 1 → b2 ≡ byte s 2
-      → 4 < n → n ≤ 8 → configFits s ≡ true → o .«packet_type» ≡ configType n → o .routing ≡ 0 → faultNumber (o .fault) ≡ first (registerRows a b1 b2 0)
+      → 4 < n → n ≤ 8 → configFits s ≡ true → o .«packet_type» ≡ configType n → o .routing ≡ 0 → o .fault ≡ first (registerRows a b1 b2 0)
       → wordBytes (o .words) ≡ padded 12 (configBytes i q) → IsKindHead o s
   unfolding routingIn ownBytes configIn requestIn first plainBad enablesBad pageBad
   config-head q i a b1 b2 eq ei ea e1 e2 l h fits et eg ef ew = by n refl
@@ -231,7 +228,7 @@ module _ (s : List ℕ) (o : KindHead) (n : ℕ) (e : n ≡ byte s 0) where
       words : wordBytes (o .words) ≡ padded 12 (configBytes (word 2 s 14) (configIn s))
       words = ew ∙ ap (λ (x : ConfigRequest). padded 12 (configBytes i x)) eq ∙ ap (λ (x : ℕ). padded 12 (configBytes x (configIn s))) ei
 
-      faults : faultNumber (o .fault) ≡ first (registerRows (accessAt 0 (configIn s .request)) (byte s 1) (byte s 2) 0)
+      faults : o .fault ≡ first (registerRows (accessAt 0 (configIn s .request)) (byte s 1) (byte s 2) 0)
       faults =
           ef
           ∙ ap (λ (x : ℕ). first (registerRows a x b2 0)) e1
@@ -266,7 +263,7 @@ module _ (s : List ℕ) (o : KindHead) (n : ℕ) (e : n ≡ byte s 0) where
       )
 
   message-head : (m : MessageRequest) (b5 : ℕ) → m ≡ messageIn s → b5 ≡ byte s 5 → 8 < n → n ≤ 10 → messageFits (eqb n 10) s ≡ true
-      → o .«packet_type» ≡ pick (eqb n 10) MsgD Msg → o .routing ≡ caseRouting b5 → faultNumber (o .fault) ≡ 0 → wordBytes (o .words) ≡ messageBytes m → IsKindHead o s
+      → o .«packet_type» ≡ pick (eqb n 10) MsgD Msg → o .routing ≡ caseRouting b5 → o .fault ≡ 0 → wordBytes (o .words) ≡ messageBytes m → IsKindHead o s
   unfolding routingIn ownBytes first plainBad enablesBad pageBad
   message-head m b5 em e5 l h fits et eg ef ew = by (eqb n 10) refl
     where
@@ -285,7 +282,7 @@ module _ (s : List ℕ) (o : KindHead) (n : ℕ) (e : n ≡ byte s 0) where
           head-of s o (routeNumbered (byte s 5) s) (Message (messageIn s)) (route-at s (byte s 5) refl) (kind-at s 9 m) (et ∙ rw k) routes ef words (message-bare-length s (rw k at fits))
 
   completion-head : (c : CompletionHeader) (i : ℕ) → c ≡ completionIn s → i ≡ word 2 s 14 → 10 < n → n ≤ 12 → completionFits (eqb n 12) s ≡ true
-      → o .«packet_type» ≡ pick (eqb n 12) CplD Cpl → o .routing ≡ 0 → faultNumber (o .fault) ≡ 0 → wordBytes (o .words) ≡ padded 12 (completionBytes i c) → IsKindHead o s
+      → o .«packet_type» ≡ pick (eqb n 12) CplD Cpl → o .routing ≡ 0 → o .fault ≡ 0 → wordBytes (o .words) ≡ padded 12 (completionBytes i c) → IsKindHead o s
   unfolding routingIn ownBytes first plainBad enablesBad pageBad
   completion-head c i ec ei l h fits et eg ef ew = by (eqb n 12) refl
     where
@@ -302,56 +299,37 @@ module _ (s : List ℕ) (o : KindHead) (n : ℕ) (e : n ≡ byte s 0) where
 
 -- ---- in the words of the returns
 
-memory-kept : (a b : Bool) → faultNumber (faultNumbered (pick a 7 (pick b 8 0))) ≡ pick a 7 (pick b 8 0)
-memory-kept true b = refl
-memory-kept false true = refl
-memory-kept false false = refl
-
-register-kept : (a b : Bool) → faultNumber (faultNumbered (pick a 6 (pick b 7 0))) ≡ pick a 6 (pick b 7 0)
-register-kept true b = refl
-register-kept false true = refl
-register-kept false false = refl
-
-module _ (f : Fault) (m : ℕ) (a : Access) (ef : f ≡ faultNumbered m) where
-  memory-number : m ≡ first (memoryRows a) → faultNumber f ≡ first (memoryRows a)
-  unfolding first
-  memory-number e = rw (ef, e) (memory-kept (not (enablesAllowed a)) (crossesPage a))
-
-  register-number : (tc attr : ℕ) → m ≡ first (registerRows a tc attr 0) → faultNumber f ≡ first (registerRows a tc attr 0)
-  unfolding first
-  register-number tc attr e = rw (ef, e) (register-kept (notPlain a tc attr 0) (not (enablesAllowed (ruledAsOne a))))
-
 module _ (s : List ℕ) (len : length s ≡ 48) (each : (i : ℕ) → Fits w8 (byte s i)) (shared : sharedFits s ≡ true) (n : ℕ) (e : n ≡ byte s 0) (fits : Bool) (t : PacketType)
     (w : Words) where
-  module _ (f : Fault) (m : ℕ) (em : f ≡ faultNumbered m) where
+  module _ (f : ℕ) where
     abbrev plainHead : KindHead
     plainHead = record { fits = fits; «packet_type» = t; routing = 0; fault = f; words = w }
 
     module _ (q : Request) (v : ℕ) (a : Access) (eq : q ≡ requestIn s) (ev : v ≡ word 8 s 8) (ea : a ≡ accessAt v q) where
-      pub memory-is : 0 < n → n ≤ 2 → fits ≡ memoryFits s → t ≡ memoryType n v → m ≡ first (memoryRows a)
+      pub memory-is : 0 < n → n ≤ 2 → fits ≡ memoryFits s → t ≡ memoryType n v → f ≡ first (memoryRows a)
           → wordBytes w ≡ padded 12 (requestBytes q ++ memoryAddress v) → JudgedHead plainHead s
       memory-is l h ef et er ew =
-          (memory-law s len each shared n e fits (λ z. omega (arith, l, z)) h ef, λ g. memory-head s plainHead n e q v a eq ev ea l h (sym ef ∙ g) et refl (memory-number f m a em er) ew)
+          (memory-law s len each shared n e fits (λ z. omega (arith, l, z)) h ef, λ g. memory-head s plainHead n e q v a eq ev ea l h (sym ef ∙ g) et refl er ew)
 
-      pub io-is : (b1 b2 : ℕ) → b1 ≡ byte s 1 → b2 ≡ byte s 2 → 2 < n → n ≤ 4 → fits ≡ ioFits s → t ≡ pick (eqb n 3) IORd IOWr → m ≡ first (registerRows a b1 b2 0)
+      pub io-is : (b1 b2 : ℕ) → b1 ≡ byte s 1 → b2 ≡ byte s 2 → 2 < n → n ≤ 4 → fits ≡ ioFits s → t ≡ pick (eqb n 3) IORd IOWr → f ≡ first (registerRows a b1 b2 0)
           → wordBytes w ≡ padded 12 (requestBytes q ++ bytes 4 v) → JudgedHead plainHead s
       io-is b1 b2 e1 e2 l h ef et er ew =
-          (io-law s len each shared n e fits l h ef, λ g. io-head s plainHead n e q v a eq ev ea b1 b2 e1 e2 l h (sym ef ∙ g) et refl (register-number f m a em b1 b2 er) ew)
+          (io-law s len each shared n e fits l h ef, λ g. io-head s plainHead n e q v a eq ev ea b1 b2 e1 e2 l h (sym ef ∙ g) et refl er ew)
 
     pub config-is : (q : ConfigRequest) (i : ℕ) (a : Access) (b1 b2 : ℕ) → q ≡ configIn s → i ≡ word 2 s 14 → a ≡ accessAt 0 (q .request) → b1 ≡ byte s 1 → b2 ≡ byte s 2
-        → 4 < n → n ≤ 8 → fits ≡ configFits s → t ≡ configType n → m ≡ first (registerRows a b1 b2 0) → wordBytes w ≡ padded 12 (configBytes i q) → JudgedHead plainHead s
+        → 4 < n → n ≤ 8 → fits ≡ configFits s → t ≡ configType n → f ≡ first (registerRows a b1 b2 0) → wordBytes w ≡ padded 12 (configBytes i q) → JudgedHead plainHead s
     config-is q i a b1 b2 eq ei ea e1 e2 l h ef et er ew =
-        (config-law s len each shared n e fits l h ef, λ g. config-head s plainHead n e q i a b1 b2 eq ei ea e1 e2 l h (sym ef ∙ g) et refl (register-number f m a em b1 b2 er) ew)
+        (config-law s len each shared n e fits l h ef, λ g. config-head s plainHead n e q i a b1 b2 eq ei ea e1 e2 l h (sym ef ∙ g) et refl er ew)
 
   pub message-is : (m : MessageRequest) (b5 r : ℕ) → m ≡ messageIn s → b5 ≡ byte s 5 → 8 < n → n ≤ 10 → fits ≡ messageFits (eqb n 10) s → t ≡ pick (eqb n 10) MsgD Msg
-      → r ≡ caseRouting b5 → wordBytes w ≡ messageBytes m → JudgedHead (record { fits = fits; «packet_type» = t; routing = r; fault = None; words = w }) s
+      → r ≡ caseRouting b5 → wordBytes w ≡ messageBytes m → JudgedHead (record { fits = fits; «packet_type» = t; routing = r; fault = 0; words = w }) s
   message-is m b5 r em e5 l h ef et er ew =
       (message-law s len each shared n e fits l h ef, λ g. message-head s _ n e m b5 em e5 l h (sym ef ∙ g) et er refl ew)
 
   pub completion-is : (c : CompletionHeader) (i : ℕ) → c ≡ completionIn s → i ≡ word 2 s 14 → 10 < n → n ≤ 12 → fits ≡ completionFits (eqb n 12) s
-      → t ≡ pick (eqb n 12) CplD Cpl → wordBytes w ≡ padded 12 (completionBytes i c) → JudgedHead (plainHead None 0 refl) s
+      → t ≡ pick (eqb n 12) CplD Cpl → wordBytes w ≡ padded 12 (completionBytes i c) → JudgedHead (plainHead 0) s
   completion-is c i ec ei l h ef et ew =
-      (completion-law s len each shared n e fits l h ef, λ g. completion-head s (plainHead None 0 refl) n e c i ec ei l h (sym ef ∙ g) et refl refl ew)
+      (completion-law s len each shared n e fits l h ef, λ g. completion-head s (plainHead 0) n e c i ec ei l h (sym ef ∙ g) et refl refl ew)
 
 module _ (s : List ℕ) (o : KindHead) (e : o .fits ≡ false) where
   none-is : false ≡ writable s → JudgedHead o s
@@ -393,12 +371,12 @@ routing-rest n h1 h2 h3 h4 h5 = rw (ne-eqb n 1 h1, ne-eqb n 2 h2, ne-eqb n 3 h3,
 
 -- ---- with what every kind has alike
 
-pub head-is : (s : List ℕ) (o : KindHead) (t : PacketType) (f : Fault) (w : Words) (b1 b2 b3 b4 d n : ℕ) → IsKindHead o s → t ≡ o .«packet_type» → f ≡ o .fault → w ≡ o .words
+pub head-is : (s : List ℕ) (o : KindHead) (t : PacketType) (w : Words) (b1 b2 b3 b4 d n : ℕ) → IsKindHead o s → t ≡ o .«packet_type» → w ≡ o .words
     → b1 ≡ byte s 1 → b2 ≡ byte s 2 → b3 ≡ byte s 3 → b4 ≡ byte s 4 → d ≡ word 4 s 24 → n ≡ word 4 s 28
     → IsHead (record {
       «packet_type» = t;
       routing = o .routing;
-      fault = f;
+      fault = o .fault;
       words = w;
       «traffic_class» = b1;
       attributes = b2;
@@ -408,10 +386,10 @@ pub head-is : (s : List ℕ) (o : KindHead) (t : PacketType) (f : Fault) (w : Wo
       length = n;
     }) (recordPacket s)
 unfolding recordPacket
-head-is s o t f w b1 b2 b3 b4 d n i et ef ew e1 e2 e3 e4 ed en = record {
+head-is s o t w b1 b2 b3 b4 d n i et ew e1 e2 e3 e4 ed en = record {
   type-is = et ∙ i .type-is;
   routing-is = i .routing-is;
-  fault-is = ap (λ (x : Fault). faultNumber x) ef ∙ i .fault-is;
+  fault-is = i .fault-is;
   words-are = ap (λ (x : Words). wordBytes x) ew ∙ i .words-are;
   class-is = e1;
   attributes-are = e2;

@@ -39,9 +39,7 @@ use tlp_record::places::SOURCE_ID;
 use tlp_record::places::STATUS;
 use tlp_record::places::TAG;
 use tlp_record::places::TRAFFIC_CLASS;
-use tlp_write::head::Fault;
 use tlp_write::head::Head;
-use tlp_write::head::fault_numbered;
 use tlp_write::words::Words;
 use tlp_write::words::completion_words;
 use tlp_write::words::config_words;
@@ -64,7 +62,7 @@ pub struct KindHead {
     pub fits: bool,
     pub packet_type: PacketType,
     pub routing: u8,
-    pub fault: Fault,
+    pub fault: u32,
     pub words: Words,
 }
 
@@ -141,7 +139,7 @@ fn memory_head(n: u8, record: &[u8]) -> KindHead
         fits: memory_fits(record),
         packet_type: memory_type(n, address),
         routing: 0,
-        fault: fault_numbered(memory_fault(access_at(address, q))),
+        fault: memory_fault(access_at(address, q)),
         words: memory_words(address, q),
     }
 }
@@ -175,7 +173,7 @@ fn io_head(n: u8, record: &[u8]) -> KindHead
         fits: io_fits(record),
         packet_type: pick_type(n == 3, PacketType::IORd, PacketType::IOWr),
         routing: 0,
-        fault: fault_numbered(fault),
+        fault: fault,
         words: io_words(address, q),
     }
 }
@@ -211,7 +209,7 @@ fn config_head(n: u8, record: &[u8]) -> KindHead
         fits: config_fits(record),
         packet_type: config_type(n),
         routing: 0,
-        fault: fault_numbered(fault),
+        fault: fault,
         words: config_words(two(record, ROUTE_ID), q),
     }
 }
@@ -242,7 +240,7 @@ fn message_head(n: u8, record: &[u8]) -> KindHead
         fits: message_fits(n == 10, record),
         packet_type: pick_type(n == 10, PacketType::MsgD, PacketType::Msg),
         routing: case_routing(one(record, ROUTE)),
-        fault: Fault::None,
+        fault: 0,
         words: message_words(message_in(record)),
     }
 }
@@ -259,7 +257,7 @@ fn completion_head(n: u8, record: &[u8]) -> KindHead
         fits: completion_fits(n == 12, record),
         packet_type: pick_type(n == 12, PacketType::CplD, PacketType::Cpl),
         routing: 0,
-        fault: Fault::None,
+        fault: 0,
         words: completion_words(two(record, ROUTE_ID), completion_in(record)),
     }
 }
@@ -271,7 +269,7 @@ fn no_head() -> KindHead
         fits: false,
         packet_type: PacketType::Unlisted,
         routing: 0,
-        fault: Fault::None,
+        fault: 0,
         words: Words { second: 0, tail: 0 },
     }
 }
@@ -310,12 +308,11 @@ pub(crate) fn head_in(k: KindHead, record: &[u8]) -> Head
     ensures { λ h. ⌜ IsHead h (recordPacket (now («record» .entry))) ⌝ }
 {
     let t = k.packet_type;
-    let fault = k.fault;
     let words = k.words;
     Head {
         packet_type: t,
         routing: k.routing,
-        fault: fault,
+        fault: k.fault,
         words: words,
         traffic_class: one(record, TRAFFIC_CLASS),
         attributes: one(record, ATTRIBUTES),

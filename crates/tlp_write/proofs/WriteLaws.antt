@@ -1,12 +1,14 @@
 -- Laws of writing, in the words of its returns.
-use Prim.Native.Nat.{ℕ, zero, suc, _+_, _*_, _≤_}
+use Prim.Native.Nat.{ℕ, zero, suc, _+_, _*_, _≤_, _<_}
 use mathlib.Core.Path.{_≡_, refl, sym, ap, _∙_}
 use mathlib.Core.Bool.{Bool, true, false, not}
 use mathlib.Core.List.{List, [], _∷_, _++_, append-assoc}
 use native.Mathlib.Omega.{arith}
 use lib.Dec.{eqb, ltb}
 use lib.ListN.{length, take, length-append}
-use borrow.Author.Tests.{eqb-true, ltb-false, not-false, ne-eqb}
+use mir.Val.{Fits}
+use mir.Syntax.{w32}
+use borrow.Author.Tests.{eqb-true, ltb-false, lt-ltb, le-ltb, not-false, ne-eqb}
 use Rattle.bits.specs.Choice.{pick}
 use Rattle.bits.specs.Word.{bytes}
 use Rattle.bits.specs.Put.{put, overFront}
@@ -16,6 +18,7 @@ use Rattle.tlp.specs.Rows.{Row, row, first}
 use Rattle.tlp.proofs.RowLaws.{some-of, none-of}
 use Rattle.tlp.specs.Settings.{settingsListed}
 use Rattle.tlp.specs.PacketTypes.{headerDw, familyOf}
+use Rattle.tlp.proofs.Bounds.{data-le}
 use Rattle.tlp.specs.Packets.{typeOf, accessOf}
 use Rattle.tlp.specs.Sizes.{dataBytes, digestBytes}
 use Rattle.tlp.specs.Contents.{plainBad, enablesBad, pageBad, faultRows}
@@ -27,13 +30,11 @@ use Rattle.tlp_writable.specs.Given.{givenRows}
 use Rattle.tlp_write.specs.declared.WriteAnswer.{WriteAnswer}
 use Rattle.tlp_write.specs.declared.WriteAnswer.the-variants.{Written, Refused}
 use Rattle.tlp_write.specs.declared.words.Words.{Words}
-use Rattle.tlp_write.specs.declared.head.Fault.{Fault}
-use Rattle.tlp_write.specs.declared.head.Fault.the-variants.{None}
 use Rattle.tlp_write.specs.declared.head.Head.{Head}
 use Rattle.tlp_write.specs.Layout.{routingIn, ownBytes, frontBytes, headerOf, digestOf, bytesOf, sizeOf}
 use Rattle.tlp_write.specs.Write.{fieldRows, laterRows, writeRows, writeAnswer, writePacket, writeOut}
 use Rattle.tlp_write.specs.Inner.Padded.{padded}
-use Rattle.tlp_write.specs.Inner.Head.{wordBytes, headFront, headSize, headBytes, headDigest, dataSize, wholeSize, faultNumber, faultNumbered, judgedRows, judgedAnswer, judgedOut, headRows, headAnswer, headOut, IsHead}
+use Rattle.tlp_write.specs.Inner.Head.{wordBytes, headFront, headSize, headBytes, headDigest, dataSize, mostData, wholeSize, listedFault, judgedRows, judgedAnswer, judgedOut, headRows, headAnswer, headOut, IsHead}
 use Rattle.tlp_write.specs.Inner.Lay.{layAnswer, layOut}
 use Rattle.tlp_write.proofs.LayoutLaws.{routing-low, header-length, header-front, three-or-four}
 
@@ -41,6 +42,12 @@ use Rattle.tlp_write.proofs.LayoutLaws.{routing-low, header-length, hea
 
 pub wide-law : (t : PacketType) (n : ℕ) → n ≡ headerDw t → eqb n 4 ≡ eqb (headerDw t) 4
 wide-law t n e = rw e
+
+pub held-le : (t : PacketType) (d n : ℕ) → d ≡ dataBytes t n → Fits w32 n → d ≤ mostData
+held-le t d n e h = omega (arith, e, data-le t n, h .fits)
+
+pub whole-law : (h : Head) (d n : ℕ) → d ≡ dataSize h → n ≡ pick (eqb (headerDw (h .«packet_type»)) 4) 16 12 + d + digestBytes (h .«has_digest») → n ≡ wholeSize h
+whole-law h d n e k = rw e at k
 
 -- ---- the packet over the output
 
@@ -150,14 +157,17 @@ module _ (mps : ℕ) (h : Head) (fault : ℕ) (payload out : List ℕ) (n : ℕ)
 
 -- ---- any head
 
-pub fault-key : (n m : ℕ) (f : Fault) → n ≡ m → f ≡ faultNumbered m → f ≡ faultNumbered n
-fault-key n m f e q = rw e q
+pub fault-below : (n : ℕ) → n < 6 → 0 ≡ listedFault n
+fault-below n h = rw (lt-ltb n 6 h)
 
-pub fault-rest : (n : ℕ) → (n ≡ 6 → ⊥) → (n ≡ 7 → ⊥) → (n ≡ 8 → ⊥) → None ≡ faultNumbered n
-fault-rest n h6 h7 h8 = rw (ne-eqb n 6 h6, ne-eqb n 7 h7, ne-eqb n 8 h8)
+pub fault-above : (n : ℕ) → 6 ≤ n → 8 < n → 0 ≡ listedFault n
+fault-above n l h = rw (le-ltb n 6 l, lt-ltb 8 n h)
 
--- numbers of the rows 6 to 8 are kept
-pub fault-kept : (a b c : Bool) → faultNumber (faultNumbered (pick a 6 (pick b 7 (pick c 8 0)))) ≡ pick a 6 (pick b 7 (pick c 8 0))
+pub fault-listed : (n : ℕ) → 6 ≤ n → n ≤ 8 → n ≡ listedFault n
+fault-listed n l h = rw (le-ltb n 6 l, le-ltb 8 n h)
+
+-- the rows 6 to 8 have such a number
+fault-kept : (a b c : Bool) → pick a 6 (pick b 7 (pick c 8 0)) ≡ listedFault (pick a 6 (pick b 7 (pick c 8 0)))
 fault-kept true b c = refl
 fault-kept false true c = refl
 fault-kept false false true = refl
@@ -173,7 +183,7 @@ module _ (c : Settings) (h : Head) (l : Bool) (el : l ≡ settingsListed c) wher
     unfolding headOut
     unlisted-out payload out = rw (← unlisted (length payload) (length out))
 
-  module _ (u : not l ≡ false) (fault : ℕ) (ef : fault ≡ faultNumber (h .fault)) where
+  module _ (u : not l ≡ false) (fault : ℕ) (ef : fault ≡ listedFault (h .fault)) where
     judged-same : (n room : ℕ) → judgedAnswer (c .mps) h fault n room ≡ headAnswer c h n room
     unfolding judgedAnswer headAnswer first
     judged-same n room = rw (ef, ← el, u)
@@ -194,13 +204,13 @@ fault-first false true c m = refl
 fault-first false false true m = refl
 fault-first false false false m = refl
 
-pub head-law : (p : Packet) (t : PacketType) (a : Access) (f : Family) (r m : ℕ) (g : Fault) (w : Words) → t ≡ typeOf p → a ≡ accessOf p → f ≡ familyOf t
-    → r ≡ routingIn (p .route) (p .kind) → m ≡ first (faultRows f a (p .«traffic_class») (p .attributes) 0) → g ≡ faultNumbered m
+pub head-law : (p : Packet) (t : PacketType) (a : Access) (f : Family) (r m : ℕ) (w : Words) → t ≡ typeOf p → a ≡ accessOf p → f ≡ familyOf t
+    → r ≡ routingIn (p .route) (p .kind) → m ≡ first (faultRows f a (p .«traffic_class») (p .attributes) 0)
     → wordBytes w ≡ padded 12 (ownBytes (p .route) (p .kind))
     → IsHead (record {
       «packet_type» = t;
       routing = r;
-      fault = g;
+      fault = m;
       words = w;
       «traffic_class» = p .«traffic_class»;
       attributes = p .attributes;
@@ -209,21 +219,18 @@ pub head-law : (p : Packet) (t : PacketType) (a : Access) (f : Family) (r m : �
       digest = p .digest;
       length = a .length;
     }) p
-unfolding first
-head-law p t a f r m g w et ea ef er em eg ew =
-    let k : m ≡ first (faultRows (familyOf (typeOf p)) (accessOf p) (p .«traffic_class») (p .attributes) 0) = em ∙ rw (ea, ef, et) in
-    record {
-      type-is = et;
-      routing-is = er;
-      fault-is = rw (eg, k) (fault-kept (plainBad (familyOf (typeOf p)) (accessOf p) (p .«traffic_class») (p .attributes) 0) (enablesBad (familyOf (typeOf p)) (accessOf p)) (pageBad (familyOf (typeOf p)) (accessOf p)));
-      words-are = ew;
-      class-is = refl;
-      attributes-are = refl;
-      poisoned-is = refl;
-      digest-told = refl;
-      digest-is = refl;
-      length-is = rw ea;
-    }
+head-law p t a f r m w et ea ef er em ew = record {
+  type-is = et;
+  routing-is = er;
+  fault-is = em ∙ rw (ea, ef, et);
+  words-are = ew;
+  class-is = refl;
+  attributes-are = refl;
+  poisoned-is = refl;
+  digest-told = refl;
+  digest-is = refl;
+  length-is = rw ea;
+}
 
 -- the rows by their numbers: data, fault, whole size
 abbrev numbersFirst : ℕ → ℕ → ℕ → ℕ → ℕ → ℕ → ℕ
@@ -255,6 +262,13 @@ module _ (h : Head) (p : Packet) (i : IsHead h p) where
   data-same : dataSize h ≡ dataBytes (typeOf p) (accessOf p .length)
   data-same = rw (i .type-is, i .length-is)
 
+  fault-same : h .fault ≡ listedFault (h .fault)
+  unfolding first
+  fault-same =
+      let f = familyOf (typeOf p) in
+      let a = accessOf p in
+      rw (i .fault-is) (fault-kept (plainBad f a (p .«traffic_class») (p .attributes) 0) (enablesBad f a) (pageBad f a))
+
   rows-same : (c : Settings) (n room : ℕ) → first (headRows c h n room) ≡ first (row 11 (not (settingsListed c)) ∷ laterRows c p n room)
   unfolding first
   rows-same c n room =
@@ -262,8 +276,8 @@ module _ (h : Head) (p : Packet) (i : IsHead h p) where
       let a = accessOf p in
       let d = dataBytes (typeOf p) (a .length) in
       ap (λ (m : ℕ). pick (not (settingsListed c)) 11 m)
-      (ap (λ (x : ℕ). numbersFirst (c .mps) n room x (faultNumber (h .fault)) (wholeSize h)) data-same
-      ∙ ap (λ (x : ℕ). numbersFirst (c .mps) n room d x (wholeSize h)) (i .fault-is)
+      (ap (λ (x : ℕ). numbersFirst (c .mps) n room x (listedFault (h .fault)) (wholeSize h)) data-same
+      ∙ ap (λ (x : ℕ). numbersFirst (c .mps) n room d x (wholeSize h)) (sym fault-same ∙ i .fault-is)
       ∙ ap (λ (x : ℕ). numbersFirst (c .mps) n room d (first (faultRows f a (p .«traffic_class») (p .attributes) 0)) x) whole-same
       ∙ ap (λ (m : ℕ). pick (not (eqb n d)) 3 (pick (ltb (c .mps) d) 5 m))
       (fault-first (plainBad f a (p .«traffic_class») (p .attributes) 0) (enablesBad f a) (pageBad f a) (pick (ltb room (sizeOf p)) 12 0)))
@@ -318,9 +332,9 @@ module _ (c : Settings) (p : Packet) (n : ℕ) (e : n ≡ first (fieldRows c p))
         by true q = (refl, q)
         by false q = absurd (omega (arith, q))
 
-    module _ (h : Head) (i : IsHead h p) (fault : ℕ) (f : fault ≡ faultNumber (h .fault)) where
-      pub write-answer : (k room : ℕ) (x : WriteAnswer) → x ≡ judgedAnswer (c .mps) h fault k room → x ≡ writePacket c p k room
-      write-answer k room x q = head-answer h p i c (none-hold .1) k room x (listed c h true (sym (none-hold .0)) refl fault f k room x q)
+    module _ (h : Head) (i : IsHead h p) where
+      pub write-answer : (k room : ℕ) (x : WriteAnswer) → x ≡ judgedAnswer (c .mps) h (h .fault) k room → x ≡ writePacket c p k room
+      write-answer k room x q = head-answer h p i c (none-hold .1) k room x (listed c h true (sym (none-hold .0)) refl (h .fault) (fault-same h p i) k room x q)
 
-      pub write-out : (payload out last : List ℕ) → last ≡ judgedOut (c .mps) h fault payload out → last ≡ writeOut c p payload out
-      write-out payload out last q = head-out h p i c (none-hold .1) payload out last (listed-out c h true (sym (none-hold .0)) refl fault f payload out last q)
+      pub write-out : (payload out last : List ℕ) → last ≡ judgedOut (c .mps) h (h .fault) payload out → last ≡ writeOut c p payload out
+      write-out payload out last q = head-out h p i c (none-hold .1) payload out last (listed-out c h true (sym (none-hold .0)) refl (h .fault) (fault-same h p i) payload out last q)

@@ -18,21 +18,14 @@ ghost use mathlib.Core.Path.{_≡_};
 ghost use mathlib.Core.List.{[], _∷_};
 ghost use Rattle.bits.specs.Word.{bytes};
 ghost use Rattle.tlp_write.specs.Layout.{routing, routingIn};
-ghost use Rattle.tlp_write.specs.Inner.Head.{faultNumber, faultNumbered, IsHead, headFront};
-
-// The first of the rows 6 to 8 that holds, if one does: a head can hand on no other number.
-pub enum Fault {
-    None,
-    NotPlain,
-    Enables,
-    Page,
-}
+ghost use Rattle.tlp_write.specs.Inner.Head.{listedFault, IsHead, headFront};
 
 pub struct Head {
     pub packet_type: PacketType,
     // What byte 0 has beside the type: a message's routing.
     pub routing: u8,
-    pub fault: Fault,
+    // The first of the rows 6 to 8 that holds; any other number is none.
+    pub fault: u32,
     pub words: Words,
     pub traffic_class: u8,
     pub attributes: u8,
@@ -42,27 +35,17 @@ pub struct Head {
     pub length: u32,
 }
 
-// The fault by its number; any other number is none.
-pub fn fault_numbered(n: u32) -> Fault
-    ensures { λ f. ⌜ f ≡ faultNumbered n ⌝ }
+// No other number than 6 to 8 is handed on.
+pub(crate) fn listed_fault(n: u32) -> u32
+    ensures { λ r. ⌜ r ≡ listedFault n ⌝ }
 {
-    match n {
-        6 => Fault::NotPlain,
-        7 => Fault::Enables,
-        8 => Fault::Page,
-        _ => Fault::None,
+    if n < 6 {
+        return 0;
     }
-}
-
-pub(crate) fn fault_number(f: Fault) -> u32
-    ensures { λ n. ⌜ n ≡ faultNumber f ⌝ }
-{
-    match f {
-        Fault::None => 0,
-        Fault::NotPlain => 6,
-        Fault::Enables => 7,
-        Fault::Page => 8,
+    if 8 < n {
+        return 0;
     }
+    n
 }
 
 fn implicit_routing(w: Implicit) -> u8
@@ -118,11 +101,10 @@ pub(crate) fn head_of(p: Packet) -> Head
     let a = access_of(p);
     let route = p.route;
     let kind = p.kind;
-    let fault = fault_of(family_of(t), a, p.traffic_class, p.attributes, 0);
     Head {
         packet_type: t,
         routing: routing_in(route, kind),
-        fault: fault_numbered(fault),
+        fault: fault_of(family_of(t), a, p.traffic_class, p.attributes, 0),
         words: own_words(route, kind),
         traffic_class: p.traffic_class,
         attributes: p.attributes,

@@ -4,9 +4,9 @@ mod put;
 pub mod words;
 
 use crate::head::Head;
-use crate::head::fault_number;
 use crate::head::front_word;
 use crate::head::head_of;
+use crate::head::listed_fault;
 use tlp::packet::Packet;
 use tlp::packet_type::PacketType;
 use tlp::packet_type::header_dw;
@@ -24,9 +24,9 @@ ghost use Rattle.bits.specs.Choice.{pick};
 ghost use Rattle.bits.specs.Put.{put, overFront};
 ghost use Rattle.tlp.specs.Rows.{first};
 ghost use Rattle.tlp.specs.PacketTypes.{headerDw};
-ghost use Rattle.tlp.specs.Sizes.{dataBytes, digestBytes};
+ghost use Rattle.tlp.specs.Sizes.{digestBytes};
 ghost use Rattle.tlp_write.specs.Write.{fieldRows, writePacket, writeOut};
-ghost use Rattle.tlp_write.specs.Inner.Head.{headBytes, headDigest, wholeSize, judgedRows, judgedAnswer, judgedOut, headAnswer, headOut};
+ghost use Rattle.tlp_write.specs.Inner.Head.{headBytes, headDigest, mostData, dataSize, wholeSize, judgedRows, judgedAnswer, judgedOut, headAnswer, headOut};
 ghost use Rattle.tlp_write.specs.Inner.Lay.{layAnswer, layOut};
 
 pub enum WriteAnswer {
@@ -49,11 +49,12 @@ fn head_size(t: PacketType) -> usize
     12
 }
 
-// Header, data and digest.
-fn whole_size(t: PacketType, length: u32, digest: bool) -> usize
-    ensures { λ r. ⌜ r ≡ pick (eqb (headerDw t) 4) 16 12 + dataBytes t length + digestBytes digest ⌝ }
+// Header, data of held bytes and digest. A length of 32 bits calls for no more data.
+fn whole_size(t: PacketType, held: usize, digest: bool) -> usize
+    requires { ⌜ held ≤ mostData ⌝ }
+    ensures { λ r. ⌜ r ≡ pick (eqb (headerDw t) 4) 16 12 + held + digestBytes digest ⌝ }
 {
-    head_size(t) + data_bytes(t, length) + digest_bytes(digest)
+    head_size(t) + held + digest_bytes(digest)
 }
 
 // The first that holds of the rows 11 and, for the packet's fields, 6; 0 where none does.
@@ -67,12 +68,19 @@ fn field_number(settings: Settings, p: Packet) -> u32
 }
 
 // The first that holds of the rows 3, 5, the fault and 12, for a payload of n bytes; 0 where none does.
-fn judged_number(mps: u32, h: Head, fault: u32, size: usize, n: usize, room: usize) -> u32
+fn judged_number(
+    mps: u32,
+    h: Head,
+    fault: u32,
+    held: usize,
+    size: usize,
+    n: usize,
+    room: usize,
+) -> u32
+    requires { ⌜ held ≡ dataSize h ⌝ }
     requires { ⌜ size ≡ wholeSize h ⌝ }
     ensures { λ r. ⌜ r ≡ first (judgedRows mps h fault n room) ⌝ }
 {
-    let t = h.packet_type;
-    let held = data_bytes(t, h.length);
     if n != held {
         return 3;
     }
@@ -114,8 +122,9 @@ fn write_judged(mps: u32, h: Head, fault: u32, payload: &[u8], out: &mut [u8]) -
     ensures { λ _. ⌜ now (out .exit) ≡ judgedOut mps h fault (now (payload .entry)) (now (out .entry)) ⌝ }
 {
     let t = h.packet_type;
-    let size = whole_size(t, h.length, h.has_digest);
-    let n = judged_number(mps, h, fault, size, payload.len(), out.len());
+    let held = data_bytes(t, h.length);
+    let size = whole_size(t, held, h.has_digest);
+    let n = judged_number(mps, h, fault, held, size, payload.len(), out.len());
     if n != 0 {
         return WriteAnswer::Refused(n);
     }
@@ -131,8 +140,7 @@ pub fn write_head(settings: Settings, h: Head, payload: &[u8], out: &mut [u8]) -
     if !settings_listed(settings) {
         return WriteAnswer::Refused(11);
     }
-    let fault = h.fault;
-    write_judged(settings.mps, h, fault_number(fault), payload, out)
+    write_judged(settings.mps, h, listed_fault(h.fault), payload, out)
 }
 
 // The packet over the front of the output, for who knows that no row of its fields holds: of the rows 3, 5 and 12 alone are looked at.
@@ -153,6 +161,5 @@ pub fn write(settings: Settings, p: Packet, payload: &[u8], out: &mut [u8]) -> W
         return WriteAnswer::Refused(n);
     }
     let h = head_of(p);
-    let fault = h.fault;
-    write_judged(settings.mps, h, fault_number(fault), payload, out)
+    write_judged(settings.mps, h, h.fault, payload, out)
 }

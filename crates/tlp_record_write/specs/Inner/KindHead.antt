@@ -14,7 +14,7 @@ use Rattle.tlp.specs.declared.packet_type.PacketType.{PacketType}
 use Rattle.tlp.specs.declared.packet_type.PacketType.the-variants.{MRd32, MRd64, MWr32, MWr64, CfgRd0, CfgWr0, CfgRd1, CfgWr1}
 use Rattle.tlp_write.specs.Layout.{routingIn, ownBytes}
 use Rattle.tlp_write.specs.Inner.Padded.{padded}
-use Rattle.tlp_write.specs.Inner.Head.{wordBytes, faultNumber}
+use Rattle.tlp_write.specs.Inner.Head.{wordBytes}
 use Rattle.tlp_record.specs.Places.{lengthPlace}
 use Rattle.tlp_record.specs.Record.{recordPacket}
 use Rattle.tlp_record_write.specs.Inner.Fit.{writable}
@@ -40,7 +40,7 @@ recordFaults fields =
 pub record IsKindHead (k : KindHead) (fields : List ℕ) : Type 0 where
   pub type-is : k .«packet_type» ≡ typeOf (recordPacket fields)
   pub routing-is : k .routing ≡ routingIn (recordPacket fields .route) (recordPacket fields .kind)
-  pub fault-is : faultNumber (k .fault) ≡ first (recordFaults fields)
+  pub fault-is : k .fault ≡ first (recordFaults fields)
   pub words-are : wordBytes (k .words) ≡ padded 12 (ownBytes (recordPacket fields .route) (recordPacket fields .kind))
   pub length-is : word 4 fields lengthPlace ≡ accessOf (recordPacket fields) .length
 

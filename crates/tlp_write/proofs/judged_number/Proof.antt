@@ -1,10 +1,6 @@
 use Rattle.tlp.proofs.RowLaws.{rows}
-use borrow.Author.Needs.{needs}
 use Rattle.tlp_write.proofs.judged_number.Statement.{statement}
 use Rattle.tlp_write.proofs.judged_number.Tie as tie
-
-data-bytes-requires : tie.Need-data-bytes-requires
-data-bytes-requires c κs = search needs
 
 returns : tie.Need-returns
 returns c = search rows depth 12 fits 4000
@@ -22,4 +18,4 @@ returns-5 : tie.Need-returns-5
 returns-5 c = search rows depth 12 fits 4000
 
 pub judged-number-spec : {M : Type 1} → statement M
-judged-number-spec = tie.close (tie.spec data-bytes-requires returns returns-2 returns-3 returns-4 returns-5)
+judged-number-spec = tie.close (tie.spec returns returns-2 returns-3 returns-4 returns-5)

@@ -12,9 +12,6 @@ returns c = (search field-refused, search field-out)
 head-of-requires : tie.Need-head-of-requires
 head-of-requires c κs = search needs
 
-fault-number-requires : tie.Need-fault-number-requires
-fault-number-requires c κs = search needs
-
 write-judged-requires : tie.Need-write-judged-requires
 write-judged-requires c κs = search needs
 
@@ -31,7 +28,6 @@ write-spec =
     field-number-requires
     returns
     head-of-requires
-    fault-number-requires
     write-judged-requires
     same-length
     returns-2)

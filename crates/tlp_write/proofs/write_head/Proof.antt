@@ -9,8 +9,8 @@ settings-listed-requires c κs = search needs
 returns : tie.Need-returns
 returns c = (search unlisted, search unlisted-out)
 
-fault-number-requires : tie.Need-fault-number-requires
-fault-number-requires c κs = search needs
+listed-fault-requires : tie.Need-listed-fault-requires
+listed-fault-requires c κs = search needs
 
 write-judged-requires : tie.Need-write-judged-requires
 write-judged-requires c κs = search needs
@@ -27,7 +27,7 @@ write-head-spec =
     (tie.spec
     settings-listed-requires
     returns
-    fault-number-requires
+    listed-fault-requires
     write-judged-requires
     same-length
     returns-2)

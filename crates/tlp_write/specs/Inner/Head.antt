@@ -22,8 +22,6 @@ use Rattle.tlp_write.specs.Write.{writeAnswer, outAfter}
 use Rattle.tlp_write.specs.Inner.Padded.{padded}
 use Rattle.tlp_write.specs.declared.WriteAnswer.{WriteAnswer}
 use Rattle.tlp_write.specs.declared.words.Words.{Words}
-use Rattle.tlp_write.specs.declared.head.Fault.{Fault}
-use Rattle.tlp_write.specs.declared.head.Fault.the-variants.{None, NotPlain, Enables, Page}
 use Rattle.tlp_write.specs.declared.head.Head.{Head}
 
 -- bytes 4 to 15
@@ -49,21 +47,19 @@ headBytes h = take (headSize h) (headFront h ++ wordBytes (h .words))
 abbrev pub headDigest : Head → List ℕ
 headDigest h = pick (h .«has_digest») (bytes 4 (h .digest)) []
 
+-- the most data that a length of 32 bits calls for
+abbrev pub mostData : ℕ
+mostData = 17179869180
+
 abbrev pub dataSize : Head → ℕ
 dataSize h = dataBytes (h .«packet_type») (h .length)
 
 abbrev pub wholeSize : Head → ℕ
 wholeSize h = headSize h + dataSize h + digestBytes (h .«has_digest»)
 
--- the number of a fault, 0 for none, and back; any other number is none
-abbrev pub faultNumber : Fault → ℕ
-faultNumber None = 0
-faultNumber NotPlain = 6
-faultNumber Enables = 7
-faultNumber Page = 8
-
-abbrev pub faultNumbered : ℕ → Fault
-faultNumbered n = pick (eqb n 6) NotPlain (pick (eqb n 7) Enables (pick (eqb n 8) Page None))
+-- a head's fault: the numbers of the rows 6 to 8 alone are handed on
+abbrev pub listedFault : ℕ → ℕ
+listedFault n = pick (ltb n 6) 0 (pick (ltb 8 n) 0 n)
 
 -- ---- with a fault that is known: the rows 3, 5, the fault and 12, for a payload of n bytes and an output of room bytes
 
@@ -85,7 +81,7 @@ judgedOut mps h fault payload out =
 -- ---- of any head: the writer's rows but those of the fields that are given (6 at its first place)
 
 abbrev pub headRows : Settings → Head → ℕ → ℕ → List Row
-headRows settings h n room = row 11 (not (settingsListed settings)) ∷ judgedRows (settings .mps) h (faultNumber (h .fault)) n room
+headRows settings h n room = row 11 (not (settingsListed settings)) ∷ judgedRows (settings .mps) h (listedFault (h .fault)) n room
 
 unfoldable pub headAnswer : Settings → Head → ℕ → ℕ → WriteAnswer
 headAnswer settings h n room = writeAnswer (first (headRows settings h n room)) (wholeSize h)
@@ -97,7 +93,7 @@ headOut settings h payload out = outAfter (headAnswer settings h (length payload
 pub record IsHead (h : Head) (p : Packet) : Type 0 where
   pub type-is : h .«packet_type» ≡ typeOf p
   pub routing-is : h .routing ≡ routingIn (p .route) (p .kind)
-  pub fault-is : faultNumber (h .fault) ≡ first (faultRows (familyOf (typeOf p)) (accessOf p) (p .«traffic_class») (p .attributes) 0)
+  pub fault-is : h .fault ≡ first (faultRows (familyOf (typeOf p)) (accessOf p) (p .«traffic_class») (p .attributes) 0)
   pub words-are : wordBytes (h .words) ≡ padded 12 (ownBytes (p .route) (p .kind))
   pub class-is : h .«traffic_class» ≡ p .«traffic_class»
   pub attributes-are : h .attributes ≡ p .attributes

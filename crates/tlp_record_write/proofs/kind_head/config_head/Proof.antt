@@ -24,9 +24,6 @@ config-fits-requires c κs = search needs
 config-type-requires : tie.Need-config-type-requires
 config-type-requires c κs = search needs
 
-fault-numbered-requires : tie.Need-fault-numbered-requires
-fault-numbered-requires c κs = search needs
-
 two-requires : tie.Need-two-requires
 two-requires c κs = search needs
 
@@ -34,7 +31,7 @@ config-words-requires : tie.Need-config-words-requires
 config-words-requires c κs = search needs
 
 returns : tie.Need-returns
-returns c = search (config-is, c .before .before .before .before .before .before .before .before .before .before .before .shared-slice-known .given) depth 10 fits 4000
+returns c = search (config-is, c .before .before .before .before .before .before .before .before .before .before .shared-slice-known .given) depth 10 fits 4000
 
 pub config-head-spec : {M : Type 1} → statement M
 config-head-spec =
@@ -47,7 +44,6 @@ config-head-spec =
     register-fault-requires
     config-fits-requires
     config-type-requires
-    fault-numbered-requires
     two-requires
     config-words-requires
     returns)

@@ -27,14 +27,11 @@ io-fits-requires c κs = search needs
 pick-type-requires : tie.Need-pick-type-requires
 pick-type-requires c κs = search needs
 
-fault-numbered-requires : tie.Need-fault-numbered-requires
-fault-numbered-requires c κs = search needs
-
 io-words-requires : tie.Need-io-words-requires
 io-words-requires c κs = search needs
 
 returns : tie.Need-returns
-returns c = search (io-is, c .before .before .before .before .before .before .before .before .before .before .shared-slice-known .given) depth 10 fits 4000
+returns c = search (io-is, c .before .before .before .before .before .before .before .before .before .shared-slice-known .given) depth 10 fits 4000
 
 pub io-head-spec : {M : Type 1} → statement M
 io-head-spec =
@@ -48,6 +45,5 @@ io-head-spec =
     register-fault-requires
     io-fits-requires
     pick-type-requires
-    fault-numbered-requires
     io-words-requires
     returns)

@@ -21,14 +21,11 @@ access-at-requires c κs = search needs
 memory-fault-requires : tie.Need-memory-fault-requires
 memory-fault-requires c κs = search needs
 
-fault-numbered-requires : tie.Need-fault-numbered-requires
-fault-numbered-requires c κs = search needs
-
 memory-words-requires : tie.Need-memory-words-requires
 memory-words-requires c κs = search needs
 
 returns : tie.Need-returns
-returns c = search (memory-is, c .before .before .before .before .before .before .before .before .shared-slice-known .given) depth 10 fits 4000
+returns c = search (memory-is, c .before .before .before .before .before .before .before .shared-slice-known .given) depth 10 fits 4000
 
 pub memory-head-spec : {M : Type 1} → statement M
 memory-head-spec =
@@ -40,6 +37,5 @@ memory-head-spec =
     memory-type-requires
     access-at-requires
     memory-fault-requires
-    fault-numbered-requires
     memory-words-requires
     returns)

@@ -9,17 +9,14 @@ type-of-requires c κs = search needs
 access-of-requires : tie.Need-access-of-requires
 access-of-requires c κs = search needs
 
+routing-in-requires : tie.Need-routing-in-requires
+routing-in-requires c κs = search needs
+
 family-of-requires : tie.Need-family-of-requires
 family-of-requires c κs = search needs
 
 fault-of-requires : tie.Need-fault-of-requires
 fault-of-requires c κs = search needs
-
-routing-in-requires : tie.Need-routing-in-requires
-routing-in-requires c κs = search needs
-
-fault-numbered-requires : tie.Need-fault-numbered-requires
-fault-numbered-requires c κs = search needs
 
 own-words-requires : tie.Need-own-words-requires
 own-words-requires c κs = search needs
@@ -33,9 +30,8 @@ head-of-spec =
     (tie.spec
     type-of-requires
     access-of-requires
+    routing-in-requires
     family-of-requires
     fault-of-requires
-    routing-in-requires
-    fault-numbered-requires
     own-words-requires
     returns)
