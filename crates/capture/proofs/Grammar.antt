@@ -71,7 +71,7 @@ module _ (settings : Settings) (l : settingsListed settings ≡ true) where
 -- ---- line one
 
 module _ (text : List ℕ) (h : Header) where
-  pub header-text : headerLine text ≡ Good h → (settingsListed (h .settings) ≡ true) × (h .requester < 65536) × (text ≡ headerText h)
+  pub header-text : headerLine text ≡ Good h → (settingsListed (h .settings) ≡ true) × (h .requester < 2 ^ 16) × (text ≡ headerText h)
   unfolding headerLine headerGood
   header-text e =
       let x : Header = record { settings = headerSettings text; requester = requesterField text .value } in
@@ -91,7 +91,7 @@ module _ (text : List ℕ) (h : Header) where
       (sym (join-eight mpsKey (decimalText (x .settings .mps)) mrrsKey (decimalText (x .settings .mrrs)) rcbKey (decimalText (x .settings .rcb)) requesterKey (digits 16 4 (x .requester)))) in
       rw (← q) (and-right (eqb (requesterField text .next) (length text)) _ g, omega (arith, hex-after-lt text requesterKey (rcbField text) (requesterField text) 4 refl), t)
 
-  pub text-header : settingsListed (h .settings) ≡ true → h .requester < 65536 → text ≡ headerText h → headerLine text ≡ Good h
+  pub text-header : settingsListed (h .settings) ≡ true → h .requester < 2 ^ 16 → text ≡ headerText h → headerLine text ≡ Good h
   unfolding headerLine headerGood
   text-header l r e =
       let x : Settings = h .settings in

@@ -38,7 +38,9 @@ headerSettings text = record { mps = mpsField text .value; mrrs = mrrsField text
 
 -- nothing follows the last field, and the settings are listed
 unfoldable pub headerGood : List ℕ → Bool
-headerGood text = requesterField text .good && (eqb (requesterField text .next) (length text) && settingsListed (headerSettings text))
+headerGood text =
+    requesterField text .good && (eqb (requesterField text .next) (length text) && settingsListed (headerSettings text))
 
 unfoldable pub headerLine : List ℕ → HeaderLine
-headerLine text = pick (headerGood text) (Good (record { settings = headerSettings text; requester = requesterField text .value })) Bad
+headerLine text =
+    pick (headerGood text) (Good (record { settings = headerSettings text; requester = requesterField text .value })) Bad

@@ -25,7 +25,10 @@ atField text = decimalAfter text lineStart atKey most32
 
 -- the direction after the time's field: rx where its key stands there, else tx
 unfoldable pub directionAfter : List ℕ → Field → DirectionField
-directionAfter text at = record { field = pick (keyAfter text at rxKey .good) (keyAfter text at rxKey) (keyAfter text at txKey); direction = pick (keyAfter text at rxKey .good) Rx Tx }
+directionAfter text at = record {
+  field = pick (keyAfter text at rxKey .good) (keyAfter text at rxKey) (keyAfter text at txKey);
+  direction = pick (keyAfter text at rxKey .good) Rx Tx;
+}
 
 abbrev pub directionOf : List ℕ → DirectionField
 directionOf text = directionAfter text (atField text)
@@ -38,8 +41,13 @@ abbrev pub digitsField : List ℕ → Field
 digitsField text = keyAfter text (lengthField text) packetKey
 
 unfoldable pub frontOf : List ℕ → Front
-frontOf text =
-    record { good = digitsField text .good; at = atField text .value; direction = directionOf text .direction; size = lengthField text .value; digits = digitsField text .next }
+frontOf text = record {
+  good = digitsField text .good;
+  at = atField text .value;
+  direction = directionOf text .direction;
+  size = lengthField text .value;
+  digits = digitsField text .next;
+}
 
 -- what a packet line says
 pub record PacketText : Type 0 where
@@ -50,17 +58,21 @@ pub record PacketText : Type 0 where
 -- "len is the byte count"
 abbrev pub counted : Front → Option (List ℕ) → Option PacketText
 counted f none = none
-counted f (some bytes) = pick (eqb (length bytes) (f .size)) (some (record { at = f .at; direction = f .direction; bytes = bytes })) none
+counted f (some bytes) =
+    pick (eqb (length bytes) (f .size)) (some (record { at = f .at; direction = f .direction; bytes = bytes })) none
 
 unfoldable pub packetLine : List ℕ → Option PacketText
-packetLine text = pick (frontOf text .good) (counted (frontOf text) (bytesSpelled (drop (frontOf text .digits) text))) none
+packetLine text =
+    pick (frontOf text .good) (counted (frontOf text) (bytesSpelled (drop (frontOf text .digits) text))) none
 
 -- a bad line is bad whatever the room; else 12 where the packet's first most bytes do not fit; the size is of all its
 -- bytes
 abbrev pub entryAnswer : ℕ → Option PacketText → List ℕ → PacketLine
 entryAnswer most none out = Bad
 entryAnswer most (some p) out =
-    pick (fits 0 (take most (p .bytes)) out) (Packet (record { at = p .at; direction = p .direction; size = length (p .bytes) })) (Refused 12)
+    pick (fits 0 (take most (p .bytes)) out)
+    (Packet (record { at = p .at; direction = p .direction; size = length (p .bytes) }))
+    (Refused 12)
 
 -- the packet's first most bytes over the front of an output, which stays as it was with another answer
 abbrev pub packetOver : ℕ → Option PacketText → List ℕ → List ℕ

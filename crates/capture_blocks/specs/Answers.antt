@@ -17,8 +17,13 @@ use Rattle.capture_blocks.specs.declared.BlockAnswer.the-variants.{Stepp
 
 -- a stepping's numbers, for a step over so many bytes
 abbrev pub stepIn : Stepping → ℕ → Step
-stepIn stepping size =
-    record { progress = stepping .progress; used = size - stepping .left; written = length (stepping .decoding .output); lines = stepping .decoding .lines; refused = stepping .decoding .refused }
+stepIn stepping size = record {
+  progress = stepping .progress;
+  used = size - stepping .left;
+  written = length (stepping .decoding .output);
+  lines = stepping .decoding .lines;
+  refused = stepping .decoding .refused;
+}
 
 -- for the most that so many bytes of lines print
 abbrev pub hasRoom : ℕ → List ℕ → Bool

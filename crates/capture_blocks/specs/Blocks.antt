@@ -32,14 +32,16 @@ stepLines settings texts tail =
 
 -- "only `code=11`", and nothing of what follows
 abbrev pub headerRefused : Stepping
-headerRefused = record { progress = Refused; decoding = record { output = codeLine 11; lines = 0; refused = 0 }; left = 0 }
+headerRefused =
+    record { progress = Refused; decoding = record { output = codeLine 11; lines = 0; refused = 0 }; left = 0 }
 
 abbrev pub stepHeader : HeaderLine → List (List ℕ) → List ℕ → Stepping
 stepHeader BadHeader texts tail = headerRefused
 stepHeader (Good h) texts tail = stepLines (h .settings) texts tail
 
 unfoldable pub stepFirst : List (List ℕ) → List ℕ → Stepping
-stepFirst [] tail = pick (overLong tail) headerRefused (record { progress = First; decoding = noLines; left = length tail })
+stepFirst [] tail =
+    pick (overLong tail) headerRefused (record { progress = First; decoding = noLines; left = length tail })
 stepFirst (first ∷ texts) tail = stepHeader (headerRead first) texts tail
 
 unfoldable pub stepSkipping : Settings → List (List ℕ) → List ℕ → Stepping
@@ -86,7 +88,8 @@ runFrom p rest lines refused [] = lastText p (endOf p rest) lines refused
 runFrom p rest lines refused (block ∷ blocks) =
     let bytes = rest ++ block in
     let stepping = stepOf p bytes in
-    stepping .decoding .output ++ runFrom (stepping .progress) (drop (length bytes - stepping .left) bytes) (lines + stepping .decoding .lines) (refused + stepping .decoding .refused) blocks
+    stepping .decoding .output
+    ++ runFrom (stepping .progress) (drop (length bytes - stepping .left) bytes) (lines + stepping .decoding .lines) (refused + stepping .decoding .refused) blocks
 
 -- the output for an input that comes in these blocks
 unfoldable pub runBlocks : List (List ℕ) → List ℕ

@@ -68,7 +68,8 @@ fn step_lines(
     requires { ⌜ printedEach * (length (now bytes) - from) ≤ length (now out) ⌝ }
     requires { ⌜ textMost ≤ 2 * length (now space) ⌝ }
     ensures answer { λ r. ⌜ r ≡ stepIn (linesStep settings (now (bytes .entry)) from) (length (now (bytes .entry))) ⌝ }
-    ensures output { λ r. ⌜ now (out .exit) ≡ printedStep (linesStep settings (now (bytes .entry)) from) (now (out .entry)) ⌝ }
+    ensures output { λ r.
+        ⌜ now (out .exit) ≡ printedStep (linesStep settings (now (bytes .entry)) from) (now (out .entry)) ⌝ }
 {
     let tally = decode_lines(settings, bytes, from, space, out);
     if TEXT_MOST < bytes.len() - tally.used {
@@ -136,6 +137,7 @@ fn step_header(bytes: &[u8], end: usize, space: &mut [u8], out: &mut [u8]) -> St
     }
 }
 
+// Line one has not come.
 fn step_first(bytes: &[u8], space: &mut [u8], out: &mut [u8]) -> Step
     requires { ⌜ printedEach * length (now bytes) ≤ length (now out) ⌝ }
     requires { ⌜ textMost ≤ 2 * length (now space) ⌝ }
@@ -155,11 +157,13 @@ fn step_first(bytes: &[u8], space: &mut [u8], out: &mut [u8]) -> Step
     }
 }
 
+// What comes begins with the rest of an over-long line.
 fn step_skipping(settings: Settings, bytes: &[u8], space: &mut [u8], out: &mut [u8]) -> Step
     requires { ⌜ printedEach * length (now bytes) ≤ length (now out) ⌝ }
     requires { ⌜ textMost ≤ 2 * length (now space) ⌝ }
     ensures answer { λ r. ⌜ r ≡ stepIn (skippingStep settings (now (bytes .entry))) (length (now (bytes .entry))) ⌝ }
-    ensures output { λ r. ⌜ now (out .exit) ≡ printedStep (skippingStep settings (now (bytes .entry))) (now (out .entry)) ⌝ }
+    ensures output { λ r.
+        ⌜ now (out .exit) ≡ printedStep (skippingStep settings (now (bytes .entry))) (now (out .entry)) ⌝ }
 {
     let line = next_line(bytes, 0);
     match line {
@@ -169,6 +173,7 @@ fn step_skipping(settings: Settings, bytes: &[u8], space: &mut [u8], out: &mut [
     }
 }
 
+// A step for which there is room.
 fn step_within(progress: Progress, bytes: &[u8], space: &mut [u8], out: &mut [u8]) -> Step
     requires { ⌜ printedEach * length (now bytes) ≤ length (now out) ⌝ }
     requires { ⌜ textMost ≤ 2 * length (now space) ⌝ }
@@ -196,6 +201,7 @@ pub fn decode_block(progress: Progress, bytes: &[u8], out: &mut [u8]) -> BlockAn
     BlockAnswer::Stepped(step_within(progress, bytes, &mut space, out))
 }
 
+// The end of the input, where there is room.
 fn end_within(progress: Progress, rest: &[u8], out: &mut [u8]) -> Step
     requires { ⌜ printedEach ≤ length (now out) ⌝ }
     ensures answer { λ r. ⌜ r ≡ stepIn (ending progress (now (rest .entry))) (length (now (rest .entry))) ⌝ }

@@ -17,7 +17,8 @@ ghost use Rattle.capture_lines.specs.Lines.{textMost};
 ghost use Rattle.capture_print.specs.Outputs.{outputLine};
 ghost use Rattle.capture_decode.specs.Decode.{readRefused, refusedCount};
 ghost use Rattle.capture_decode.specs.Printed.{printedEach};
-ghost use Rattle.capture_blocks.specs.Inner.Lines.{printedLine, incompleteLine, lineDone, lineOver, decodedFrom, tallyFrom};
+ghost use Rattle.capture_blocks.specs.Inner.Lines.{printedLine, incompleteLine, lineDone, lineOver};
+ghost use Rattle.capture_blocks.specs.Inner.Lines.{decodedFrom, tallyFrom};
 
 fn read_refused(answer: ReadAnswer) -> usize
     ensures { λ r. ⌜ r ≡ readRefused answer ⌝ }
@@ -132,8 +133,10 @@ pub(crate) fn decode_lines(
     requires { ⌜ printedEach * (length (now bytes) - from) ≤ length (now out) ⌝ }
     requires { ⌜ textMost ≤ 2 * length (now space) ⌝ }
     ensures answer { λ r. ⌜ r ≡ tallyFrom settings (now (bytes .entry)) from ⌝ }
-    ensures output { λ r. ⌜ now (out .exit) ≡ put 0 (decodedFrom settings (now (bytes .entry)) from .output) (now (out .entry)) ⌝ }
-    ensures room { λ r. ⌜ r .written + printedEach * (length (now (bytes .entry)) - r .used) ≤ length (now (out .entry)) ⌝ }
+    ensures output { λ r.
+        ⌜ now (out .exit) ≡ put 0 (decodedFrom settings (now (bytes .entry)) from .output) (now (out .entry)) ⌝ }
+    ensures room { λ r.
+        ⌜ r .written + printedEach * (length (now (bytes .entry)) - r .used) ≤ length (now (out .entry)) ⌝ }
     ensures counts { λ r. ⌜ (r .lines ≤ r .used) × (r .refused ≤ r .lines) × (r .used ≤ length (now (bytes .entry))) ⌝ }
 {
     let mut place = from;

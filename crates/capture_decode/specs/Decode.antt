@@ -47,7 +47,11 @@ refusedCount (Unlaid number) = 1
 
 -- one line, before what the lines behind it give
 abbrev pub lineStep : LineAnswer → Decoding → Decoding
-lineStep answer d = record { output = outputLine answer ++ d .output; lines = suc (d .lines); refused = refusedCount answer + d .refused }
+lineStep answer d = record {
+  output = outputLine answer ++ d .output;
+  lines = suc (d .lines);
+  refused = refusedCount answer + d .refused;
+}
 
 abbrev pub noLines : Decoding
 noLines = record { output = []; lines = 0; refused = 0 }

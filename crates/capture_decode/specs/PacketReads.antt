@@ -20,4 +20,5 @@ standing most p space = take (length (p .bytes)) (packetOver most (some p) space
 -- a bad line is bad whatever the room; else 12 where the first most bytes do not fit
 abbrev pub packetRead : Settings → ℕ → Option PacketText → List ℕ → LineAnswer
 packetRead settings most none space = Bad
-packetRead settings most (some p) space = pick (fits 0 (take most (p .bytes)) space) (Read (readPacket settings (standing most p space))) (Refused 12)
+packetRead settings most (some p) space =
+    pick (fits 0 (take most (p .bytes)) space) (Read (readPacket settings (standing most p space))) (Refused 12)

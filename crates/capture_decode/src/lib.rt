@@ -19,7 +19,8 @@ pub const PRINTED_EACH: usize = 8;
 // has are read: with most at its size or above the packet itself, with PRINTED_FRONT what prints the same.
 pub fn packet_read(settings: Settings, text: &[u8], most: usize, space: &mut [u8]) -> LineAnswer
     ensures answer { λ r. ⌜ r ≡ packetRead settings most (packetLine (now (text .entry))) (now (space .entry)) ⌝ }
-    ensures output { λ r. ⌜ now (space .exit) ≡ packetOver most (packetLine (now (text .entry))) (now (space .entry)) ⌝ }
+    ensures output { λ r.
+        ⌜ now (space .exit) ≡ packetOver most (packetLine (now (text .entry))) (now (space .entry)) ⌝ }
 {
     let line = packet_line(text, most, space);
     match line {

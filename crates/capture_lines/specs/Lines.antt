@@ -55,7 +55,10 @@ lineLength (b ∷ bytes) = pick (isNewline b) 0 (suc (lineLength bytes))
 
 -- the line of n bytes that begins at index start, in an input of so many bytes
 abbrev pub lineOf : ℕ → ℕ → ℕ → NextLine
-lineOf size start n = pick (ltb (start + n) size) (pick (ltb textMost n) (OverLong (suc (start + n))) (Ended (suc (start + n)))) (Unended (start + n))
+lineOf size start n =
+    pick (ltb (start + n) size)
+    (pick (ltb textMost n) (OverLong (suc (start + n))) (Ended (suc (start + n))))
+    (Unended (start + n))
 
 -- the line that begins at a place, with the index after it
 unfoldable pub nextLine : List ℕ → ℕ → NextLine

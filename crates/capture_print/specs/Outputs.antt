@@ -34,7 +34,8 @@ codeLine number = codeKey ++ (decimalText number ++ newline)
 
 -- an accepted packet's line: "dw is 0 for Msg and Cpl"
 unfoldable pub packetOutput : Packet → List ℕ
-packetOutput p = acceptedKey ++ (kindWord (typeOf p) ++ (tagKey ++ (decimalText (tagIn (p .kind)) ++ (dwKey ++ (decimalText (accessOf p .length) ++ newline)))))
+packetOutput p =
+    acceptedKey ++ (kindWord (typeOf p) ++ (tagKey ++ (decimalText (tagIn (p .kind)) ++ (dwKey ++ (decimalText (accessOf p .length) ++ newline)))))
 
 unfoldable pub readOutput : ReadAnswer → List ℕ
 readOutput (Accepted p) = packetOutput p

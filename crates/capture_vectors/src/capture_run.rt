@@ -11,6 +11,7 @@ use text::words::part;
 ghost use mathlib.Core.Path.{_≡_};
 ghost use Prim.Native.Nat.{_+_, _≤_};
 ghost use lib.ListN.{length};
+ghost use Rattle.capture_vectors.specs.Inner.Sizes.{inputRoom};
 
 // How far the capture is decoded: the bytes that the steps have used, and the lines in them.
 struct Run {
@@ -37,7 +38,7 @@ fn print(out: &[u8], n: usize) {
 }
 
 fn advanced(run: Run, step: Step) -> Run
-    requires { ⌜ run .used + step .used ≤ 70000 ⌝ }
+    requires { ⌜ run .used + step .used ≤ inputRoom ⌝ }
     requires { ⌜ run .lines ≤ run .used ⌝ }
     requires { ⌜ step .lines ≤ step .used ⌝ }
     requires { ⌜ run .refused ≤ run .lines ⌝ }
@@ -55,10 +56,11 @@ fn advanced(run: Run, step: Step) -> Run
 
 // Decodes what the steps before left, with a block behind it.
 fn take_step(run: Run, bytes: &[u8], out: &mut [u8]) -> Run
-    requires { ⌜ run .used + length (now bytes) ≤ 70000 ⌝ }
+    requires { ⌜ run .used + length (now bytes) ≤ inputRoom ⌝ }
     requires { ⌜ run .lines ≤ run .used ⌝ }
     requires { ⌜ run .refused ≤ run .lines ⌝ }
-    ensures { λ r. ⌜ (r .used ≤ run .used + length (now (bytes .entry))) × ((r .lines ≤ r .used) × (r .refused ≤ r .lines)) ⌝ }
+    ensures { λ r.
+        ⌜ (r .used ≤ run .used + length (now (bytes .entry))) × ((r .lines ≤ r .used) × (r .refused ≤ r .lines)) ⌝ }
 {
     let progress = run.progress;
     let answer = decode_block(progress, bytes, out);
@@ -72,10 +74,10 @@ fn take_step(run: Run, bytes: &[u8], out: &mut [u8]) -> Run
     }
 }
 
-// Each block reaches so many bytes further; a step is given all that the steps before it have not used.
+// Each block reaches so many bytes further, up to index seen; a step is given all that was not used before it.
 fn feed(capture: &[u8], block: usize, out: &mut [u8]) -> Run
-    requires { ⌜ (length (now capture) ≤ 70000) × (1 ≤ block) ⌝ }
-    ensures { λ r. ⌜ (r .lines ≤ 70000) × (r .refused ≤ 70000) ⌝ }
+    requires { ⌜ (length (now capture) ≤ inputRoom) × (1 ≤ block) ⌝ }
+    ensures { λ r. ⌜ (r .lines ≤ inputRoom) × (r .refused ≤ inputRoom) ⌝ }
 {
     let mut run = first_run();
     let mut seen: usize = 0;
@@ -89,7 +91,7 @@ fn feed(capture: &[u8], block: usize, out: &mut [u8]) -> Run
 
 // Prints what the capture's last bytes give, and the totals.
 fn finish(run: Run, rest: &[u8], out: &mut [u8])
-    requires { ⌜ (run .lines ≤ 70000) × (run .refused ≤ 70000) ⌝ }
+    requires { ⌜ (run .lines ≤ inputRoom) × (run .refused ≤ inputRoom) ⌝ }
 {
     let progress = run.progress;
     let answer = decode_end(progress, rest, out);
@@ -111,7 +113,7 @@ fn finish(run: Run, rest: &[u8], out: &mut [u8])
 
 // Decodes a capture in blocks of so many bytes.
 pub(crate) fn run_capture(capture: &[u8], block: usize, out: &mut [u8])
-    requires { ⌜ (length (now capture) ≤ 70000) × (1 ≤ block) ⌝ }
+    requires { ⌜ (length (now capture) ≤ inputRoom) × (1 ≤ block) ⌝ }
 {
     let run = feed(capture, block, out);
     finish(run, part(capture, run.used, capture.len()), out);

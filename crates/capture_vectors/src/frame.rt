@@ -6,6 +6,7 @@ use text::fields::line_start;
 use text::words::part;
 ghost use Prim.Native.Nat.{_≤_};
 ghost use lib.ListN.{length};
+ghost use Rattle.capture_vectors.specs.Inner.Sizes.{inputRoom};
 
 // The first line has at most 30 bytes and the capture at most 60,000.
 pub(crate) const FRAME_MOST: usize = 60030;
@@ -54,7 +55,7 @@ fn frame_at(input: &[u8]) -> Frame
 
 // Runs the frame and answers how many bytes it has: 0 at the end of the input, and where there is none.
 pub(crate) fn run_frame(input: &[u8], out: &mut [u8]) -> usize
-    requires { ⌜ length (now input) ≤ 70000 ⌝ }
+    requires { ⌜ length (now input) ≤ inputRoom ⌝ }
     ensures { λ r. ⌜ r ≤ length (now (input .entry)) ⌝ }
 {
     if input.len() == 0 {

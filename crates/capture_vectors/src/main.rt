@@ -8,19 +8,24 @@ use crate::window::empty_window;
 use crate::window::take_turn;
 ghost use mathlib.Core.Path.{_≡_};
 ghost use lib.ListN.{length};
+ghost use Rattle.capture_vectors.specs.Inner.Sizes.{inputRoom, outputRoom};
 
 // More than the longest frame.
-fn input_buffer() -> [u8; 70000]
-    ensures { λ r. ⌜ 70000 ≡ length r ⌝ }
+const INPUT_ROOM: usize = 70000;
+
+fn input_buffer() -> [u8; INPUT_ROOM]
+    ensures { λ r. ⌜ inputRoom ≡ length r ⌝ }
 {
-    [0; 70000]
+    [0; INPUT_ROOM]
 }
 
-// 8 bytes for each byte of the longest block behind the longest line: what decode_block asks for.
-fn output_buffer() -> [u8; 197200]
-    ensures { λ r. ⌜ 197200 ≡ length r ⌝ }
+// PRINTED_EACH bytes for each byte of the longest block behind the longest line: what decode_block asks for.
+const OUTPUT_ROOM: usize = 197200;
+
+fn output_buffer() -> [u8; OUTPUT_ROOM]
+    ensures { λ r. ⌜ outputRoom ≡ length r ⌝ }
 {
-    [0; 197200]
+    [0; OUTPUT_ROOM]
 }
 
 fn main() {

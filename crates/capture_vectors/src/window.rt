@@ -6,6 +6,7 @@ use text::buffer::move_to_front;
 ghost use mathlib.Core.Path.{_≡_};
 ghost use Prim.Native.Nat.{_-_, _≤_};
 ghost use lib.ListN.{length};
+ghost use Rattle.capture_vectors.specs.Inner.Sizes.{inputRoom};
 
 // What is still to run stands from index at up to index end.
 pub(crate) struct Window {
@@ -46,7 +47,7 @@ fn refill(w: Window, buf: &mut [u8]) -> Window
 pub(crate) fn take_turn(before: Window, buf: &mut [u8], out: &mut [u8]) -> Window
     requires { ⌜ before .at ≤ before .end ⌝ }
     requires { ⌜ before .end ≤ length (now buf) ⌝ }
-    requires { ⌜ length (now buf) ≡ 70000 ⌝ }
+    requires { ⌜ length (now buf) ≡ inputRoom ⌝ }
     ensures { λ r. ⌜ (r .at ≤ r .end) × (r .end ≤ length (now (buf .entry))) ⌝ }
 {
     let w = refill(before, buf);

@@ -7,17 +7,20 @@ use crate::turn::finish;
 use crate::turn::take_turn;
 ghost use mathlib.Core.Path.{_≡_};
 ghost use lib.ListN.{length};
+ghost use Rattle.decode.specs.Inner.Sizes.{outputRoom};
 
 // A proved loop has to end. 2 to the power 47 turns of at most 65,536 lines give at most 2 to the power 63, so that no
 // sum overflows. Each turn reads at least one byte, so that they are not used up: even byte by byte they last for 128
 // TiB.
 const TURNS: u64 = 140737488355328;
 
-// 8 bytes for each byte of the input's buffer: what decode_block asks for.
-fn output_buffer() -> [u8; 524288]
-    ensures { λ r. ⌜ 524288 ≡ length r ⌝ }
+// PRINTED_EACH bytes for each byte of the input's buffer: what decode_block asks for.
+const OUTPUT_ROOM: usize = 524288;
+
+fn output_buffer() -> [u8; OUTPUT_ROOM]
+    ensures { λ r. ⌜ outputRoom ≡ length r ⌝ }
 {
-    [0; 524288]
+    [0; OUTPUT_ROOM]
 }
 
 fn main() {

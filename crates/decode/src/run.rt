@@ -4,6 +4,7 @@ use capture_blocks::Step;
 ghost use mathlib.Core.Path.{_≡_};
 ghost use Rattle.capture_lines.specs.Lines.{textMost};
 ghost use Prim.Native.Nat.{_+_, _≤_};
+ghost use Rattle.decode.specs.Inner.Sizes.{inputRoom, linesMost};
 
 pub(crate) struct Run {
     pub progress: Progress,
@@ -69,11 +70,11 @@ fn goes_on(progress: Progress) -> bool {
 // After a step that left so many bytes.
 pub(crate) fn advanced(run: Run, step: Step, kept: usize) -> Run
     requires { ⌜ kept ≤ textMost ⌝ }
-    requires { ⌜ run .lines ≤ 9223372036854775808 ⌝ }
-    requires { ⌜ step .lines ≤ 65536 ⌝ }
+    requires { ⌜ run .lines ≤ linesMost ⌝ }
+    requires { ⌜ step .lines ≤ inputRoom ⌝ }
     requires { ⌜ run .refused ≤ run .lines ⌝ }
     requires { ⌜ step .refused ≤ step .lines ⌝ }
-    ensures { λ r. ⌜ (r .kept ≤ textMost) × ((r .lines ≤ run .lines + 65536) × (r .refused ≤ r .lines)) ⌝ }
+    ensures { λ r. ⌜ (r .kept ≤ textMost) × ((r .lines ≤ run .lines + inputRoom) × (r .refused ≤ r .lines)) ⌝ }
 {
     let progress = step.progress;
     Run {

@@ -16,6 +16,7 @@ ghost use mathlib.Core.Path.{_≡_};
 ghost use Rattle.capture_lines.specs.Lines.{textMost};
 ghost use Prim.Native.Nat.{_+_, _≤_};
 ghost use lib.ListN.{length};
+ghost use Rattle.decode.specs.Inner.Sizes.{inputRoom, linesMost};
 
 // Writes the first n bytes of out, and says so where that fails.
 fn print(out: &[u8], n: usize) -> bool {
@@ -29,10 +30,10 @@ fn print(out: &[u8], n: usize) -> bool {
 // Decodes the first n bytes of buf, prints what they gave, and keeps what they left at the front.
 fn take_step(run: Run, buf: &mut [u8], n: usize, out: &mut [u8]) -> Run
     requires { ⌜ n ≤ length (now buf) ⌝ }
-    requires { ⌜ n ≤ 65536 ⌝ }
-    requires { ⌜ run .lines ≤ 9223372036854775808 ⌝ }
+    requires { ⌜ n ≤ inputRoom ⌝ }
+    requires { ⌜ run .lines ≤ linesMost ⌝ }
     requires { ⌜ run .refused ≤ run .lines ⌝ }
-    ensures { λ r. ⌜ (r .kept ≤ textMost) × ((r .lines ≤ run .lines + 65536) × (r .refused ≤ r .lines)) ⌝ }
+    ensures { λ r. ⌜ (r .kept ≤ textMost) × ((r .lines ≤ run .lines + inputRoom) × (r .refused ≤ r .lines)) ⌝ }
 {
     let progress = run.progress;
     let answer = decode_block(progress, &buf[0..n], out);
@@ -51,11 +52,11 @@ fn take_step(run: Run, buf: &mut [u8], n: usize, out: &mut [u8]) -> Run
 
 // Reads once, behind the bytes that are kept, and decodes.
 pub(crate) fn take_turn(run: Run, buf: &mut [u8], out: &mut [u8]) -> Run
-    requires { ⌜ length (now buf) ≡ 65536 ⌝ }
+    requires { ⌜ length (now buf) ≡ inputRoom ⌝ }
     requires { ⌜ run .kept ≤ textMost ⌝ }
-    requires { ⌜ run .lines ≤ 9223372036854775808 ⌝ }
+    requires { ⌜ run .lines ≤ linesMost ⌝ }
     requires { ⌜ run .refused ≤ run .lines ⌝ }
-    ensures { λ r. ⌜ (r .kept ≤ textMost) × ((r .lines ≤ run .lines + 65536) × (r .refused ≤ r .lines)) ⌝ }
+    ensures { λ r. ⌜ (r .kept ≤ textMost) × ((r .lines ≤ run .lines + inputRoom) × (r .refused ≤ r .lines)) ⌝ }
 {
     let kept = run.kept;
     let answered = libc::read(STDIN_FILENO, &mut buf[kept..]);
@@ -72,7 +73,7 @@ pub(crate) fn take_turn(run: Run, buf: &mut [u8], out: &mut [u8]) -> Run
 
 // Prints what the kept bytes give, and the totals.
 pub(crate) fn finish(run: Run, buf: &[u8], out: &mut [u8])
-    requires { ⌜ (run .lines ≤ 9223372036854775808) × (run .refused ≤ run .lines) ⌝ }
+    requires { ⌜ (run .lines ≤ linesMost) × (run .refused ≤ run .lines) ⌝ }
 {
     let progress = run.progress;
     let answer = decode_end(progress, part(buf, 0, run.kept), out);

@@ -6,5 +6,9 @@ use Rattle.capture.specs.declared.header.HeaderFields.{HeaderFields}
 
 -- the four fields together
 unfoldable pub headerFields : List ℕ → HeaderFields
-headerFields text =
-    record { good = requesterField text .good; settings = headerSettings text; requester = requesterField text .value; next = requesterField text .next }
+headerFields text = record {
+  good = requesterField text .good;
+  settings = headerSettings text;
+  requester = requesterField text .value;
+  next = requesterField text .next;
+}

@@ -25,8 +25,12 @@ incompleteLine place at = record { complete = false; end = place; written = at; 
 -- the first complete line, printed from index at on
 abbrev pub lineDoneIn : Settings → ℕ → ℕ → List (List ℕ) → LineDone
 lineDoneIn settings place at [] = incompleteLine place at
-lineDoneIn settings place at (text ∷ texts) =
-    record { complete = true; end = place + suc (length text); written = at + length (outputLine (lineRead settings text)); refused = refusedCount (lineRead settings text) }
+lineDoneIn settings place at (text ∷ texts) = record {
+  complete = true;
+  end = place + suc (length text);
+  written = at + length (outputLine (lineRead settings text));
+  refused = refusedCount (lineRead settings text);
+}
 
 unfoldable pub lineDone : Settings → List ℕ → ℕ → ℕ → LineDone
 lineDone settings bytes place at = lineDoneIn settings place at (completeLines (drop place bytes))
@@ -43,5 +47,9 @@ unfoldable pub decodedFrom : Settings → List ℕ → ℕ → Decoding
 decodedFrom settings bytes place = linesDecoded settings (completeLines (drop place bytes)) noLines
 
 unfoldable pub tallyFrom : Settings → List ℕ → ℕ → Tally
-tallyFrom settings bytes place =
-    record { used = length bytes - length (unended (drop place bytes)); written = length (decodedFrom settings bytes place .output); lines = decodedFrom settings bytes place .lines; refused = decodedFrom settings bytes place .refused }
+tallyFrom settings bytes place = record {
+  used = length bytes - length (unended (drop place bytes));
+  written = length (decodedFrom settings bytes place .output);
+  lines = decodedFrom settings bytes place .lines;
+  refused = decodedFrom settings bytes place .refused;
+}

@@ -19,7 +19,8 @@ linesStep settings bytes from = stepLines settings (completeLines (drop from byt
 -- of step_header: line one, whose newline stands before index end, and the lines from there on
 abbrev pub headerStep : List ℕ → ℕ → Stepping
 headerStep bytes end =
-    stepHeader (headerLine (take (end - 1 - 0) (drop 0 bytes))) (completeLines (drop end bytes)) (unended (drop end bytes))
+    stepHeader (headerLine (take (end - 1 - 0) (drop 0 bytes)))
+    (completeLines (drop end bytes)) (unended (drop end bytes))
 
 abbrev pub firstStep : List ℕ → Stepping
 firstStep bytes = stepFirst (completeLines bytes) (unended bytes)

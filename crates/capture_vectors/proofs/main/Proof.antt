@@ -4,9 +4,10 @@ use mathlib.Core.Path.{_≡_}
 use lib.ListN.{length}
 use Rattle.capture_vectors.proofs.main.Statement.{statement}
 use Rattle.capture_vectors.proofs.main.Tie as tie
+use Rattle.capture_vectors.specs.Inner.Sizes.{inputRoom, outputRoom}
 
 abbrev Inv-loop : tie.InvT-loop
-Inv-loop buf₀ out₀ w₀ turns₀ buf out w turns = (length buf ≡ 70000) × ((length out ≡ 197200) × ((w .at ≤ w .end) × (w .end ≤ 70000)))
+Inv-loop buf₀ out₀ w₀ turns₀ buf out w turns = (length buf ≡ inputRoom) × ((length out ≡ outputRoom) × ((w .at ≤ w .end) × (w .end ≤ inputRoom)))
 
 abbrev μ-loop : tie.MeasureT-loop
 μ-loop buf₀ out₀ w₀ turns₀ buf out w turns = turns

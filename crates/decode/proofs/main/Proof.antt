@@ -5,9 +5,10 @@ use lib.ListN.{length}
 use Rattle.capture_lines.specs.Lines.{textMost}
 use Rattle.decode.proofs.main.Statement.{statement}
 use Rattle.decode.proofs.main.Tie as tie
+use Rattle.decode.specs.Inner.Sizes.{inputRoom, outputRoom, linesMost}
 
 abbrev Inv-loop : tie.InvT-loop
-Inv-loop buf₀ out₀ run₀ turns₀ buf out run turns = (length buf ≡ 65536) × ((length out ≡ 524288) × ((run .kept ≤ textMost) × ((run .lines + 65536 * turns ≤ 9223372036854775808) × (run .refused ≤ run .lines))))
+Inv-loop buf₀ out₀ run₀ turns₀ buf out run turns = (length buf ≡ inputRoom) × ((length out ≡ outputRoom) × ((run .kept ≤ textMost) × ((run .lines + inputRoom * turns ≤ linesMost) × (run .refused ≤ run .lines))))
 
 abbrev μ-loop : tie.MeasureT-loop
 μ-loop buf₀ out₀ run₀ turns₀ buf out run turns = turns
