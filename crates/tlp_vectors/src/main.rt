@@ -1,9 +1,10 @@
-// Runs stored vectors through reader and writer, and prints what they answer. host/second makes the vectors, and the answers that the output is
-// held to, from an implementation of its own. A line that asks for a reading is
+// Runs stored vectors through reader and writer, and prints what they answer. host/second makes the vectors,
+// and the answers that the output is held to, from an implementation of its own. A line that asks for a reading is
 //   r MPS MRRS RCB PACKET
 // and one that asks for a writing
 //   w MPS MRRS RCB ROOM LENGTH RECORD PAYLOAD
-// with eight hexadecimal digits for a setting, four for the output's room and the record's length, and two for each byte.
+// with eight hexadecimal digits for a setting, four for the output's room and the record's length,
+// and two for each byte.
 use bits::choice::lesser;
 use bits::word::byte_at;
 use text::buffer::move_to_front;
@@ -147,7 +148,8 @@ fn write_into(settings: Settings, record: &[u8], payload: &[u8], out: &mut [u8])
     print(b"\n");
 }
 
-// Writes from a record into an output of room bytes, each 0xee before. The record's digits end at their space, so its length is passed over.
+// Writes from a record into an output of room bytes, each 0xee before.
+// The record's digits end at their space, so its length is passed over.
 fn run_write(line: &[u8]) {
     let front = settings_part(line, b"w ");
     let settings = front.settings;
