@@ -5,7 +5,7 @@ Names: a marked name is in a file that its section names, or is a function or ty
 section that names no files under "In" uses those above it too. What follows vectors, script and captures is a function that makes
 them; what follows edit is an edit, with its crate (crate/edit) where two crates have one of that name. No edit is left out, and no
 public function; the contract of each has the definition that the last section puts beside it, says what it leaves in what it is lent
-for change, and has no requires.
+for change, and has no requires. A program has no public function.
 
 Quotations: a text in double quotation marks in a comment of crates/*/specs stands in the papers, as PROMISES quotes them (`> ..`).
 White space, backticks and the case of the first letter don't count; an omission is ` .. `. A quotation with omissions has its parts in
@@ -212,8 +212,11 @@ def omissions(text, names):
                 yield "%s: edit left out: %s/%s" % (DOCUMENT, crate, name)
     for crate in names:
         library = exists("crates/%s/src/lib.rt" % crate)
-        public = [f for n in found("crates/%s/src/**/*.rt" % crate) if library for f in re.findall(FUNCTION, read(n))]
+        public = [f for n in found("crates/%s/src/**/*.rt" % crate) for f in re.findall(FUNCTION, read(n))]
         for function in public:
+            if not library:
+                yield "a program has no public function: %s::%s" % (crate, function)
+                continue
             if function not in lines.get(crate, {}):
                 yield "%s: public function left out of the last section: %s::%s" % (DOCUMENT, crate, function)
                 continue
