@@ -15,11 +15,11 @@ use Rattle.tlp_write.specs.declared.WriteAnswer.{WriteAnswer}
 use Rattle.tlp_write.specs.declared.WriteAnswer.the-variants.{Refused}
 use Rattle.tlp_write.specs.declared.head.Head.{Head}
 use Rattle.tlp_write.specs.Layout.{bytesOf}
-use Rattle.tlp_write.specs.Write.{writePacket, outAfter, writeOut}
+use Rattle.tlp_write.specs.Write.{fieldRows, writePacket, outAfter, writeOut}
 use Rattle.tlp_write.specs.Inner.Head.{headAnswer, headOut, IsHead}
 use Rattle.tlp_write.proofs.WriteLaws.{head-answer, head-out}
 use Rattle.tlp_record.specs.Record.{recordPacket, isRecord}
-use Rattle.tlp_record_write.specs.Inner.Fit.{writable, unfitAnswer}
+use Rattle.tlp_record_write.specs.Inner.Fit.{writable}
 use Rattle.tlp_record_write.specs.Inner.KindHead.{IsKindHead, JudgedHead}
 use Rattle.tlp_record_write.specs.RecordWrite.{recordAnswer, recordOut}
 use Rattle.tlp_record_write.specs.declared.kind_head.KindHead.{KindHead}
@@ -46,72 +46,61 @@ module _ (s : List ℕ) (o : KindHead) (i : JudgedHead o s) where
   pub head-fit : not (o .fits) ≡ false → IsKindHead o s
   head-fit h = i .1 (not-false (o .fits) h)
 
-module _ (c : Settings) (l : Bool) (el : l ≡ settingsListed c) where
-  pub unfit-settings : not l ≡ true → refusedBy 11 ≡ unfitAnswer c
-  unfit-settings h = rw (← el, h)
-
-  pub unfit-record : not l ≡ false → refusedBy 6 ≡ unfitAnswer c
-  unfit-record h = rw (← el, h)
-
-module _ (c : Settings) (s : List ℕ) where
-  module _ (k : false ≡ writable s) where
-    refused-by-6 : settingsListed c ≡ true → isRecord s ≡ true → (n room : ℕ) → writePacket c (recordPacket s) n room ≡ refusedBy 6
-    unfolding writable writePacket first
-    refused-by-6 h r n room =
-        let p = recordPacket s in
-        let g : eqb (first (givenRows p)) 0 ≡ false = not-fit (isRecord s) (first (givenRows p)) (sym k) r in
-        rw (h, first-six (commonBad p) (ownBad (p .kind)) (reservedGiven p) (routeBad (p .route) (p .kind)) _ g)
-
-    unfit-same : (n room : ℕ) → recordAnswer c s n room ≡ unfitAnswer c
+module _ (c : Settings) (s : List ℕ) (l : Bool) (el : l ≡ settingsListed c) where
+  module _ (h : not l ≡ true) where
+    unlisted-same : (n room : ℕ) → recordAnswer c s n room ≡ refusedBy 11
     unfolding recordAnswer
-    unfit-same n room = by (settingsListed c) (isRecord s) refl refl
-      where
-        by : (l b : Bool) → settingsListed c ≡ l → isRecord s ≡ b
-            → pick (not l) (refusedBy 11) (pick (not b) (refusedBy 6) (writePacket c (recordPacket s) n room)) ≡ pick (not l) (refusedBy 11) (refusedBy 6)
-        by true true h r = refused-by-6 h r n room
-        by true false h r = refl
-        by false b h r = refl
+    unlisted-same n room = rw (← el, h)
 
-    unfit-left : (a : WriteAnswer) (xs out : List ℕ) → a ≡ unfitAnswer c → out ≡ outAfter a xs out
-    unfit-left a xs out e = e-by (settingsListed c) e
-      where
-        e-by : (l : Bool) → a ≡ pick (not l) (refusedBy 11) (refusedBy 6) → out ≡ outAfter a xs out
-        e-by true q = rw q
-        e-by false q = rw q
+    pub unlisted-answer : (n room : ℕ) (x : WriteAnswer) → x ≡ refusedBy 11 → x ≡ recordAnswer c s n room
+    unlisted-answer n room x q = q ∙ sym (unlisted-same n room)
 
-    pub unfit-answer : (n room : ℕ) (x : WriteAnswer) → x ≡ unfitAnswer c → x ≡ recordAnswer c s n room
-    unfit-answer n room x q = q ∙ sym (unfit-same n room)
-
-    pub unfit-out : (payload out : List ℕ) → out ≡ recordOut c s payload out
+    pub unlisted-out : (payload out : List ℕ) → out ≡ recordOut c s payload out
     unfolding recordOut
-    unfit-out payload out = unfit-left _ (bytesOf (recordPacket s) payload) out (unfit-same (length payload) (length out))
+    unlisted-out payload out = rw (unlisted-same (length payload) (length out))
 
-  module _ (o : KindHead) (i : JudgedHead o s) (k : not (o .fits) ≡ false) (d : Head) (j : IsHead d (recordPacket s)) where
-    fits : (isRecord s ≡ true) × (eqb (first (givenRows (recordPacket s))) 0 ≡ true)
-    unfolding writable
-    fits = and-eq-true-iff (isRecord s) (eqb (first (givenRows (recordPacket s))) 0) .0 (sym (i .0) ∙ not-false (o .fits) k)
+  module _ (h : not l ≡ false) where
+    module _ (k : false ≡ writable s) where
+      refused-by-6 : isRecord s ≡ true → (n room : ℕ) → writePacket c (recordPacket s) n room ≡ refusedBy 6
+      unfolding writable writePacket first
+      refused-by-6 r n room =
+          let p = recordPacket s in
+          let g : eqb (first (givenRows p)) 0 ≡ false = not-fit (isRecord s) (first (givenRows p)) (sym k) r in
+          rw (← el, h, first-six (commonBad p) (ownBad (p .kind)) (reservedGiven p) (routeBad (p .route) (p .kind)) _ g)
 
-    none-given : 0 ≡ first (givenRows (recordPacket s))
-    none-given = sym (eqb-true (first (givenRows (recordPacket s))) 0 (fits .1))
+      unfit-same : (n room : ℕ) → recordAnswer c s n room ≡ refusedBy 6
+      unfolding recordAnswer
+      unfit-same n room = rw (← el, h) (by (isRecord s) refl)
+        where
+          by : (b : Bool) → isRecord s ≡ b → pick (not b) (refusedBy 6) (writePacket c (recordPacket s) n room) ≡ refusedBy 6
+          by true r = refused-by-6 r n room
+          by false r = refl
 
-    -- the writer's own answer starts with 11 too
-    twice : (b : Bool) (x : WriteAnswer) → (b ≡ true → x ≡ refusedBy 11) → x ≡ pick b (refusedBy 11) x
-    twice true x f = f refl
-    twice false x f = refl
+      pub unfit-answer : (n room : ℕ) (x : WriteAnswer) → x ≡ refusedBy 6 → x ≡ recordAnswer c s n room
+      unfit-answer n room x q = q ∙ sym (unfit-same n room)
 
-    unlisted : (n room : ℕ) → not (settingsListed c) ≡ true → writePacket c (recordPacket s) n room ≡ refusedBy 11
-    unfolding writePacket first
-    unlisted n room h = rw h
+      pub unfit-out : (payload out : List ℕ) → out ≡ recordOut c s payload out
+      unfolding recordOut
+      unfit-out payload out = rw (unfit-same (length payload) (length out))
 
-    written-same : (n room : ℕ) → writePacket c (recordPacket s) n room ≡ recordAnswer c s n room
-    unfolding recordAnswer
-    written-same n room = rw (fits .0) (twice (not (settingsListed c)) (writePacket c (recordPacket s) n room) (unlisted n room))
+    module _ (o : KindHead) (i : JudgedHead o s) (k : not (o .fits) ≡ false) (d : Head) (j : IsHead d (recordPacket s)) where
+      fits : (isRecord s ≡ true) × (eqb (first (givenRows (recordPacket s))) 0 ≡ true)
+      unfolding writable
+      fits = and-eq-true-iff (isRecord s) (eqb (first (givenRows (recordPacket s))) 0) .0 (sym (i .0) ∙ not-false (o .fits) k)
 
-    pub written-answer : (n room : ℕ) (x : WriteAnswer) → x ≡ headAnswer c d n room → x ≡ recordAnswer c s n room
-    written-answer n room x q = head-answer d (recordPacket s) j c none-given n room x q ∙ written-same n room
+      none-hold : 0 ≡ first (fieldRows c (recordPacket s))
+      unfolding first
+      none-hold = rw (← el, h) (sym (eqb-true (first (givenRows (recordPacket s))) 0 (fits .1)))
 
-    pub written-out : (payload out last : List ℕ) → last ≡ headOut c d payload out → last ≡ recordOut c s payload out
-    unfolding recordOut writeOut
-    written-out payload out last q =
-        head-out d (recordPacket s) j c none-given payload out last q
-        ∙ ap (λ (x : WriteAnswer). outAfter x (bytesOf (recordPacket s) payload) out) (written-same (length payload) (length out))
+      written-same : (n room : ℕ) → writePacket c (recordPacket s) n room ≡ recordAnswer c s n room
+      unfolding recordAnswer
+      written-same n room = rw (← el, h, fits .0)
+
+      pub written-answer : (n room : ℕ) (x : WriteAnswer) → x ≡ headAnswer (c .mps) d n room → x ≡ recordAnswer c s n room
+      written-answer n room x q = head-answer d (recordPacket s) j c 0 none-hold refl n room x q ∙ written-same n room
+
+      pub written-out : (payload out last : List ℕ) → last ≡ headOut (c .mps) d payload out → last ≡ recordOut c s payload out
+      unfolding recordOut writeOut
+      written-out payload out last q =
+          head-out d (recordPacket s) j c 0 none-hold refl payload out last q
+          ∙ ap (λ (x : WriteAnswer). outAfter x (bytesOf (recordPacket s) payload) out) (written-same (length payload) (length out))

@@ -15,16 +15,11 @@ use tlp_write::write_head;
 ghost use mathlib.Core.Path.{_≡_};
 ghost use lib.ListN.{length};
 ghost use Rattle.tlp_record_write.specs.RecordWrite.{recordAnswer, recordOut};
-ghost use Rattle.tlp_record_write.specs.Inner.Fit.{unfitAnswer};
 
-// The answer where no packet can be written of the record: settings come first.
-fn unfit(settings: Settings) -> WriteAnswer
-    ensures { λ r. ⌜ r ≡ unfitAnswer settings ⌝ }
+fn refused(number: u32) -> WriteAnswer
+    ensures { λ r. ⌜ r ≡ WriteAnswer.Refused number ⌝ }
 {
-    if !settings_listed(settings) {
-        return WriteAnswer::Refused(11);
-    }
-    WriteAnswer::Refused(6)
+    WriteAnswer::Refused(number)
 }
 
 // The packet over the front of the output, or the first number that is given, with the output as it was.
@@ -37,15 +32,18 @@ pub fn write_record(
     ensures { λ r. ⌜ r ≡ recordAnswer settings (now («record» .entry)) (length (now (payload .entry))) (length (now (out .entry))) ⌝ }
     ensures { λ _. ⌜ now (out .exit) ≡ recordOut settings (now («record» .entry)) (now (payload .entry)) (now (out .entry)) ⌝ }
 {
+    if !settings_listed(settings) {
+        return refused(11);
+    }
     if record.len() != RECORD_SIZE {
-        return unfit(settings);
+        return refused(6);
     }
     if !shared_fits(record) {
-        return unfit(settings);
+        return refused(6);
     }
     let kind = kind_head_in(record);
     if !kind.fits {
-        return unfit(settings);
+        return refused(6);
     }
-    write_head(settings, head_in(kind, record), payload, out)
+    write_head(settings.mps, head_in(kind, record), payload, out)
 }

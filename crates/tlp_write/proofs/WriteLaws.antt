@@ -16,7 +16,6 @@ use Rattle.bits.proofs.PutLaws.{length-put, put-front, put-next}
 use Rattle.byte_enables.specs.declared.Access.{Access}
 use Rattle.tlp.specs.Rows.{Row, row, first}
 use Rattle.tlp.proofs.RowLaws.{some-of, none-of}
-use Rattle.tlp.specs.Settings.{settingsListed}
 use Rattle.tlp.specs.PacketTypes.{headerDw, familyOf}
 use Rattle.tlp.proofs.Bounds.{data-le}
 use Rattle.tlp.specs.Packets.{typeOf, accessOf}
@@ -26,15 +25,14 @@ use Rattle.tlp.specs.declared.settings.Settings.{Settings}
 use Rattle.tlp.specs.declared.packet.Packet.{Packet}
 use Rattle.tlp.specs.declared.packet_type.PacketType.{PacketType}
 use Rattle.tlp.specs.declared.packet_type.Family.{Family}
-use Rattle.tlp_writable.specs.Given.{givenRows}
 use Rattle.tlp_write.specs.declared.WriteAnswer.{WriteAnswer}
 use Rattle.tlp_write.specs.declared.WriteAnswer.the-variants.{Written, Refused}
 use Rattle.tlp_write.specs.declared.words.Words.{Words}
 use Rattle.tlp_write.specs.declared.head.Head.{Head}
 use Rattle.tlp_write.specs.Layout.{routingIn, ownBytes, frontBytes, headerOf, digestOf, bytesOf, sizeOf}
-use Rattle.tlp_write.specs.Write.{fieldRows, laterRows, writeRows, writeAnswer, writePacket, writeOut}
+use Rattle.tlp_write.specs.Write.{fieldRows, laterRows, writeAnswer, writePacket, writeOut}
 use Rattle.tlp_write.specs.Inner.Padded.{padded}
-use Rattle.tlp_write.specs.Inner.Head.{wordBytes, headFront, headSize, headBytes, headDigest, dataSize, mostData, wholeSize, listedFault, judgedRows, judgedAnswer, judgedOut, headRows, headAnswer, headOut, IsHead}
+use Rattle.tlp_write.specs.Inner.Head.{wordBytes, headFront, headSize, headBytes, headDigest, dataSize, mostData, wholeSize, listedFault, judgedRows, judgedAnswer, judgedOut, headAnswer, headOut, IsHead}
 use Rattle.tlp_write.specs.Inner.Lay.{layAnswer, layOut}
 use Rattle.tlp_write.proofs.LayoutLaws.{routing-low, header-length, header-front, three-or-four}
 
@@ -173,27 +171,14 @@ fault-kept false true c = refl
 fault-kept false false true = refl
 fault-kept false false false = refl
 
-module _ (c : Settings) (h : Head) (l : Bool) (el : l ≡ settingsListed c) where
-  module _ (u : not l ≡ true) where
-    pub unlisted : (n room : ℕ) → Refused 11 ≡ headAnswer c h n room
-    unfolding headAnswer first
-    unlisted n room = rw (← el, u)
+module _ (mps : ℕ) (h : Head) (fault : ℕ) (e : fault ≡ listedFault (h .fault)) where
+  pub told-answer : (n room : ℕ) (x : WriteAnswer) → x ≡ judgedAnswer mps h fault n room → x ≡ headAnswer mps h n room
+  unfolding headAnswer
+  told-answer n room x q = rw e at q
 
-    pub unlisted-out : (payload out : List ℕ) → out ≡ headOut c h payload out
-    unfolding headOut
-    unlisted-out payload out = rw (← unlisted (length payload) (length out))
-
-  module _ (u : not l ≡ false) (fault : ℕ) (ef : fault ≡ listedFault (h .fault)) where
-    judged-same : (n room : ℕ) → judgedAnswer (c .mps) h fault n room ≡ headAnswer c h n room
-    unfolding judgedAnswer headAnswer first
-    judged-same n room = rw (ef, ← el, u)
-
-    pub listed : (n room : ℕ) (x : WriteAnswer) → x ≡ judgedAnswer (c .mps) h fault n room → x ≡ headAnswer c h n room
-    listed n room x q = q ∙ judged-same n room
-
-    pub listed-out : (payload out last : List ℕ) → last ≡ judgedOut (c .mps) h fault payload out → last ≡ headOut c h payload out
-    unfolding judgedOut headOut
-    listed-out payload out last q = q ∙ rw (judged-same (length payload) (length out))
+  pub told-out : (payload out last : List ℕ) → last ≡ judgedOut mps h fault payload out → last ≡ headOut mps h payload out
+  unfolding headOut
+  told-out payload out last q = rw e at q
 
 -- ---- the head of a packet
 
@@ -269,18 +254,17 @@ module _ (h : Head) (p : Packet) (i : IsHead h p) where
       let a = accessOf p in
       rw (i .fault-is) (fault-kept (plainBad f a (p .«traffic_class») (p .attributes) 0) (enablesBad f a) (pageBad f a))
 
-  rows-same : (c : Settings) (n room : ℕ) → first (headRows c h n room) ≡ first (row 11 (not (settingsListed c)) ∷ laterRows c p n room)
+  rows-same : (c : Settings) (n room : ℕ) → first (judgedRows (c .mps) h (h .fault) n room) ≡ first (laterRows c p n room)
   unfolding first
   rows-same c n room =
       let f = familyOf (typeOf p) in
       let a = accessOf p in
       let d = dataBytes (typeOf p) (a .length) in
-      ap (λ (m : ℕ). pick (not (settingsListed c)) 11 m)
-      (ap (λ (x : ℕ). numbersFirst (c .mps) n room x (listedFault (h .fault)) (wholeSize h)) data-same
-      ∙ ap (λ (x : ℕ). numbersFirst (c .mps) n room d x (wholeSize h)) (sym fault-same ∙ i .fault-is)
+      ap (λ (x : ℕ). numbersFirst (c .mps) n room x (h .fault) (wholeSize h)) data-same
+      ∙ ap (λ (x : ℕ). numbersFirst (c .mps) n room d x (wholeSize h)) (i .fault-is)
       ∙ ap (λ (x : ℕ). numbersFirst (c .mps) n room d (first (faultRows f a (p .«traffic_class») (p .attributes) 0)) x) whole-same
       ∙ ap (λ (m : ℕ). pick (not (eqb n d)) 3 (pick (ltb (c .mps) d) 5 m))
-      (fault-first (plainBad f a (p .«traffic_class») (p .attributes) 0) (enablesBad f a) (pageBad f a) (pick (ltb room (sizeOf p)) 12 0)))
+      (fault-first (plainBad f a (p .«traffic_class») (p .attributes) 0) (enablesBad f a) (pageBad f a) (pick (ltb room (sizeOf p)) 12 0))
 
   -- without a fault it is laid as it is
   lay-same : (mps n room : ℕ) → judgedAnswer mps h 0 n room ≡ layAnswer mps p n room
@@ -294,23 +278,28 @@ module _ (h : Head) (p : Packet) (i : IsHead h p) where
   unfolding judgedOut layOut bytesOf
   lay-out mps payload out last q = q ∙ rw (lay-same mps (length payload) (length out), bytes-same, digest-same)
 
-  -- where no row of its fields holds, what is answered and written of the head is the packet's
-  module _ (c : Settings) (z : 0 ≡ first (givenRows p)) where
-    numbers-same : (n room : ℕ) → first (row 11 (not (settingsListed c)) ∷ laterRows c p n room) ≡ first (writeRows c p n room)
-    unfolding first
-    numbers-same n room =
-        ap (λ (m : ℕ). pick (not (settingsListed c)) 11 m) (none-of (givenRows p) (laterRows c p n room) 0 (first (laterRows c p n room)) refl z refl refl)
+  -- where no row of the settings or the fields holds, what is answered and written of the head is the packet's
+  module _ (c : Settings) (m : ℕ) (e : m ≡ first (fieldRows c p)) (z : m ≡ 0) where
+    answer-same : (n room : ℕ) → judgedAnswer (c .mps) h (h .fault) n room ≡ writePacket c p n room
+    unfolding judgedAnswer writePacket
+    answer-same n room =
+        rw (rows-same c n room, whole-same)
+        (ap (λ (k : ℕ). writeAnswer k (sizeOf p)) (none-of (fieldRows c p) (laterRows c p n room) m (first (laterRows c p n room)) refl e z refl))
 
-    answer-same : (n room : ℕ) → headAnswer c h n room ≡ writePacket c p n room
-    unfolding headAnswer writePacket
-    answer-same n room = rw (rows-same c n room, whole-same, numbers-same n room)
+    pub write-answer : (n room : ℕ) (x : WriteAnswer) → x ≡ judgedAnswer (c .mps) h (h .fault) n room → x ≡ writePacket c p n room
+    write-answer n room x q = q ∙ answer-same n room
 
-    pub head-answer : (n room : ℕ) (x : WriteAnswer) → x ≡ headAnswer c h n room → x ≡ writePacket c p n room
-    head-answer n room x q = q ∙ answer-same n room
+    pub write-out : (payload out last : List ℕ) → last ≡ judgedOut (c .mps) h (h .fault) payload out → last ≡ writeOut c p payload out
+    unfolding judgedOut writeOut bytesOf
+    write-out payload out last q = q ∙ rw (answer-same (length payload) (length out), bytes-same, digest-same)
 
-    pub head-out : (payload out last : List ℕ) → last ≡ headOut c h payload out → last ≡ writeOut c p payload out
-    unfolding headOut writeOut bytesOf
-    head-out payload out last q = q ∙ rw (answer-same (length payload) (length out), bytes-same, digest-same)
+    pub head-answer : (n room : ℕ) (x : WriteAnswer) → x ≡ headAnswer (c .mps) h n room → x ≡ writePacket c p n room
+    unfolding headAnswer
+    head-answer n room x q = rw (← fault-same) at q ∙ answer-same n room
+
+    pub head-out : (payload out last : List ℕ) → last ≡ headOut (c .mps) h payload out → last ≡ writeOut c p payload out
+    unfolding headOut
+    head-out payload out last q = write-out payload out last (q ∙ ap (λ (x : ℕ). judgedOut (c .mps) h x payload out) (sym fault-same))
 
 -- ---- with the rows of the settings' and the packet's fields
 
@@ -322,19 +311,3 @@ module _ (c : Settings) (p : Packet) (n : ℕ) (e : n ≡ first (fieldRows c p))
   pub field-out : (payload out : List ℕ) → (n ≡ 0 → ⊥) → out ≡ writeOut c p payload out
   unfolding writeOut
   field-out payload out z = rw (← field-refused (length payload) (length out) z)
-
-  module _ (z : n ≡ 0) where
-    none-hold : (settingsListed c ≡ true) × (0 ≡ first (givenRows p))
-    unfolding first
-    none-hold = by (settingsListed c) (sym z ∙ e)
-      where
-        by : (b : Bool) → 0 ≡ pick (not b) 11 (first (givenRows p)) → (b ≡ true) × (0 ≡ first (givenRows p))
-        by true q = (refl, q)
-        by false q = absurd (omega (arith, q))
-
-    module _ (h : Head) (i : IsHead h p) where
-      pub write-answer : (k room : ℕ) (x : WriteAnswer) → x ≡ judgedAnswer (c .mps) h (h .fault) k room → x ≡ writePacket c p k room
-      write-answer k room x q = head-answer h p i c (none-hold .1) k room x (listed c h true (sym (none-hold .0)) refl (h .fault) (fault-same h p i) k room x q)
-
-      pub write-out : (payload out last : List ℕ) → last ≡ judgedOut (c .mps) h (h .fault) payload out → last ≡ writeOut c p payload out
-      write-out payload out last q = head-out h p i c (none-hold .1) payload out last (listed-out c h true (sym (none-hold .0)) refl (h .fault) (fault-same h p i) payload out last q)

@@ -132,15 +132,13 @@ fn write_judged(mps: u32, h: Head, fault: u32, payload: &[u8], out: &mut [u8]) -
     WriteAnswer::Written(size)
 }
 
-// The packet that a head stands for, over the front of the output, for who knows the first of its rows 6 to 8.
-pub fn write_head(settings: Settings, h: Head, payload: &[u8], out: &mut [u8]) -> WriteAnswer
-    ensures { λ r. ⌜ r ≡ headAnswer settings h (length (now (payload .entry))) (length (now (out .entry))) ⌝ }
-    ensures { λ _. ⌜ now (out .exit) ≡ headOut settings h (now (payload .entry)) (now (out .entry)) ⌝ }
+// The packet that a head stands for, over the front of the output, for who knows that the settings are listed and no field of the packet has a
+// row of 6 at its first place: the rows 3, 5, 6 to 8 and 12 are looked at.
+pub fn write_head(mps: u32, h: Head, payload: &[u8], out: &mut [u8]) -> WriteAnswer
+    ensures { λ r. ⌜ r ≡ headAnswer mps h (length (now (payload .entry))) (length (now (out .entry))) ⌝ }
+    ensures { λ _. ⌜ now (out .exit) ≡ headOut mps h (now (payload .entry)) (now (out .entry)) ⌝ }
 {
-    if !settings_listed(settings) {
-        return WriteAnswer::Refused(11);
-    }
-    write_judged(settings.mps, h, listed_fault(h.fault), payload, out)
+    write_judged(mps, h, listed_fault(h.fault), payload, out)
 }
 
 // The packet over the front of the output, for who knows that no row of its fields holds: of the rows 3, 5 and 12 alone are looked at.

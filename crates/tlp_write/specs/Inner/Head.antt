@@ -10,12 +10,10 @@ use Rattle.bits.specs.Choice.{pick, flag}
 use Rattle.bits.specs.Field.{field, low}
 use Rattle.bits.specs.Word.{bytes}
 use Rattle.tlp.specs.Rows.{Row, row, first}
-use Rattle.tlp.specs.Settings.{settingsListed}
 use Rattle.tlp.specs.PacketTypes.{firstByte, headerDw, familyOf}
 use Rattle.tlp.specs.Packets.{typeOf, accessOf}
 use Rattle.tlp.specs.Sizes.{dataBytes, digestBytes}
 use Rattle.tlp.specs.Contents.{faultRows}
-use Rattle.tlp.specs.declared.settings.Settings.{Settings}
 use Rattle.tlp.specs.declared.packet.Packet.{Packet}
 use Rattle.tlp_write.specs.Layout.{routingIn, ownBytes}
 use Rattle.tlp_write.specs.Write.{writeAnswer, outAfter}
@@ -78,16 +76,13 @@ unfoldable pub judgedOut : ℕ → Head → ℕ → List ℕ → List ℕ → Li
 judgedOut mps h fault payload out =
     outAfter (judgedAnswer mps h fault (length payload) (length out)) (headBytes h ++ (payload ++ headDigest h)) out
 
--- ---- of any head: the writer's rows but those of the fields that are given (6 at its first place)
+-- ---- of any head, with the fault that it tells
 
-abbrev pub headRows : Settings → Head → ℕ → ℕ → List Row
-headRows settings h n room = row 11 (not (settingsListed settings)) ∷ judgedRows (settings .mps) h (listedFault (h .fault)) n room
+unfoldable pub headAnswer : ℕ → Head → ℕ → ℕ → WriteAnswer
+headAnswer mps h n room = judgedAnswer mps h (listedFault (h .fault)) n room
 
-unfoldable pub headAnswer : Settings → Head → ℕ → ℕ → WriteAnswer
-headAnswer settings h n room = writeAnswer (first (headRows settings h n room)) (wholeSize h)
-
-unfoldable pub headOut : Settings → Head → List ℕ → List ℕ → List ℕ
-headOut settings h payload out = outAfter (headAnswer settings h (length payload) (length out)) (headBytes h ++ (payload ++ headDigest h)) out
+unfoldable pub headOut : ℕ → Head → List ℕ → List ℕ → List ℕ
+headOut mps h payload out = judgedOut mps h (listedFault (h .fault)) payload out
 
 -- h is the head of the packet p
 pub record IsHead (h : Head) (p : Packet) : Type 0 where
