@@ -154,9 +154,9 @@ pub fn write(settings: Settings, p: Packet, payload: &[u8], out: &mut [u8]) -> W
     ensures { λ r. ⌜ r ≡ writePacket settings p (length (now (payload .entry))) (length (now (out .entry))) ⌝ }
     ensures { λ _. ⌜ now (out .exit) ≡ writeOut settings p (now (payload .entry)) (now (out .entry)) ⌝ }
 {
-    let n = field_number(settings, p);
-    if n != 0 {
-        return WriteAnswer::Refused(n);
+    let number = field_number(settings, p);
+    if number != 0 {
+        return WriteAnswer::Refused(number);
     }
     let h = head_of(p);
     write_judged(settings.mps, h, h.fault, payload, out)

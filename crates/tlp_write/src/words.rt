@@ -51,6 +51,7 @@ fn request_word(q: Request) -> u32
     word_of(q.requester, q.tag, q.last % 16 * 16 + q.first % 16)
 }
 
+// Those of a memory request.
 pub fn memory_words(address: u64, q: Request) -> Words
     ensures { λ w. ⌜ wordBytes w ≡ padded 12 (requestBytes q ++ memoryAddress address) ⌝ }
 {
@@ -60,6 +61,7 @@ pub fn memory_words(address: u64, q: Request) -> Words
     }
 }
 
+// Those of an I/O request: its address has four bytes.
 pub fn io_words(address: u64, q: Request) -> Words
     ensures { λ w. ⌜ wordBytes w ≡ padded 12 (requestBytes q ++ bytes 4 address) ⌝ }
 {
@@ -69,6 +71,7 @@ pub fn io_words(address: u64, q: Request) -> Words
     }
 }
 
+// Those of a configuration request, with its target ID.
 pub fn config_words(target: u16, q: ConfigRequest) -> Words
     ensures { λ w. ⌜ wordBytes w ≡ padded 12 (configBytes target q) ⌝ }
 {
@@ -80,6 +83,7 @@ pub fn config_words(target: u16, q: ConfigRequest) -> Words
     }
 }
 
+// Those of a message.
 pub fn message_words(m: MessageRequest) -> Words
     ensures { λ w. ⌜ wordBytes w ≡ messageBytes m ⌝ }
 {
@@ -89,6 +93,7 @@ pub fn message_words(m: MessageRequest) -> Words
     }
 }
 
+// Those of a completion, with the requester ID that it goes to.
 pub fn completion_words(requester: u16, c: CompletionHeader) -> Words
     ensures { λ w. ⌜ wordBytes w ≡ padded 12 (completionBytes requester c) ⌝ }
 {
