@@ -4,6 +4,7 @@ use text::fields::Field;
 use text::fields::decimal_after;
 use text::fields::key_after;
 use text::fields::line_start;
+use text::number::MOST_32;
 ghost use Prim.Native.Nat.{_≤_};
 
 // What is to be done: whether a turn takes its read or withdraws it, how many other reads are open, the read's size
@@ -94,7 +95,7 @@ pub(crate) fn work_in(line: &[u8], before: Field) -> Work
     let others = decimal_up_to(line, takes.field, b"others=", 31);
     let size = decimal_up_to(line, others, b" size=", 4096);
     let tag = decimal_up_to(line, size, b" tag=", 31);
-    let turns = decimal_up_to(line, tag, b" turns=", 4294967295);
+    let turns = decimal_up_to(line, tag, b" turns=", MOST_32);
     Work {
         good: is_good(line, turns, size.value),
         takes: takes.first,

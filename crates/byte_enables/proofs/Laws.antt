@@ -1,36 +1,16 @@
--- What holds of every access: how far in its bytes start and end, and how many are enabled.
+-- What holds of every access: how many bytes are enabled.
 use mathlib.Core.Path.{_≡_, refl}
-use mathlib.Core.Bool.{Bool, true, false}
-use mathlib.Core.Logic.{⊎-elim}
 use Prim.Native.Nat.{ℕ, zero, suc, _+_, _*_, _/_, _%_, _≤_, _<_}
-use native.Mathlib.Nat.{zero-add, suc-add, add-zero, add-assoc, eq-zero-or-pos, zero-lt-suc, mod-lt}
+use native.Mathlib.Nat.{zero-add, suc-add, add-zero, add-assoc, zero-lt-suc, mod-lt}
 use native.Mathlib.Numerals.{one-add}
 use native.Mathlib.Omega.{arith}
 use lib.Dec.{eqb}
 use borrow.Author.Tests.{eq-eqb, ne-eqb, le-leb, lt-leb}
-use Rattle.bits.specs.Count.{clearBelow, clearAbove, setBits}
-use Rattle.bits.specs.Choice.{pick, flag}
+use Rattle.bits.specs.Count.{setBits}
+use Rattle.bits.specs.Choice.{flag}
 use Rattle.bits.specs.Field.{field}
-use Rattle.bits.proofs.CountLaws.{below-above}
 use Rattle.byte_enables.specs.declared.Access.{Access}
-use Rattle.byte_enables.specs.Enables.{off, ending, trail, enablesAt, enabled, enabledBytes}
-
--- ---- where the bytes start and end
-
--- the clear bits at both ends of a nibble, and at most 3 of them
-both-ends : (n : ℕ) → pick (eqb (n % 16) 0) 0 (clearBelow 4 (n % 16)) + pick (eqb (n % 16) 0) 3 (clearAbove 4 (n % 16)) ≤ 3
-both-ends n =
-    ⊎-elim (λ e. rw (eq-eqb (n % 16) 0 e) (omega arith))
-    (λ (p : 0 < n % 16). rw (ne-eqb (n % 16) 0 (λ e. omega arith)) (omega (arith, below-above 4 (n % 16) p (omega arith))))
-    (eq-zero-or-pos (n % 16))
-
-pub off-lt : (a : Access) → off a < 4
-unfolding off
-off-lt a = omega (arith, both-ends (a .first))
-
-pub trail-lt : (a : Access) → trail a < 4
-unfolding trail
-trail-lt a = omega (arith, both-ends (ending a))
+use Rattle.byte_enables.specs.Enables.{enablesAt, enabled, enabledBytes}
 
 -- ---- how many are enabled
 

@@ -1,5 +1,5 @@
--- Document 01's own cases of byte enables, computed: a first of 0000, holes, the order of the bits, and the total beside
--- the set bits. (P5 to P11 are in reads_demands.) No promise cites this file.
+-- Document 01's own cases of byte enables, computed: a first of 0000, holes, the order of the bits, and the total
+-- beside the set bits. (P5 to P11 are in reads_demands.) No promise cites this file.
 use Prim.Native.Nat.{ℕ}
 use mathlib.Core.Path.{_≡_, refl}
 use mathlib.Core.Bool.{Bool, true, false, _&&_, not}

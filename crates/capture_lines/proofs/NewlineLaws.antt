@@ -13,7 +13,7 @@ use lib.Seq.{drop-cons, drop-drop}
 use borrow.Author.Tests.{lt-ltb, le-ltb, eq-eqb, ne-eqb}
 use Rattle.bits.specs.Choice.{pick}
 use Rattle.text.proofs.Order.{lt-or-le}
-use Rattle.capture_lines.specs.Lines.{isNewline, lineLength, nextLine}
+use Rattle.capture_lines.specs.Lines.{isNewline, lineLength, textMost, nextLine}
 use Rattle.capture_lines.specs.declared.NextLine.the-variants.{Ended, OverLong, Unended}
 
 -- ---- whether there is a newline
@@ -110,12 +110,12 @@ module _ (bytes : List ℕ) (place start e : ℕ) (f : start ≡ min place (leng
     count : lineLength (drop place bytes) ≡ e - start
     count = omega (arith, same)
 
-    pub next-over : 8266 < e - start → OverLong (e + 1) ≡ nextLine bytes place
+    pub next-over : textMost < e - start → OverLong (e + 1) ≡ nextLine bytes place
     unfolding nextLine
-    next-over k = rw (← f, same, lt-ltb e (length bytes) h, count, lt-ltb 8266 (e - start) k, add-one e)
+    next-over k = rw (← f, same, lt-ltb e (length bytes) h, count, lt-ltb textMost (e - start) k, add-one e)
 
-    pub next-ended : e - start ≤ 8266 → Ended (e + 1) ≡ nextLine bytes place
+    pub next-ended : e - start ≤ textMost → Ended (e + 1) ≡ nextLine bytes place
     unfolding nextLine
-    next-ended k = rw (← f, same, lt-ltb e (length bytes) h, count, le-ltb 8266 (e - start) k, add-one e)
+    next-ended k = rw (← f, same, lt-ltb e (length bytes) h, count, le-ltb textMost (e - start) k, add-one e)
 
 pub ruleset next-laws = (next-unended, next-over, next-ended)

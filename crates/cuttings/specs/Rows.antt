@@ -1,5 +1,5 @@
--- Rows of piece lengths, in doublewords. P1 to P3 cite `cuttings`, the list of all rows that are lawful for a read. To be
--- believed is `lawfulRow`; that the list holds these rows and no others is the theorem `CuttingsExact`.
+-- Rows of piece lengths, in doublewords. P1 to P3 cite `cuttings`, the list of all rows that are lawful for a read. To
+-- be believed is `lawfulRow`; that the list holds these rows and no others is the theorem `CuttingsExact`.
 use Prim.Native.Nat.{ℕ, zero, suc, _+_, _-_, _*_}
 use mathlib.Core.Path.{_≡_}
 use mathlib.Core.Logic.{_⊎_, _↔_}

@@ -21,7 +21,7 @@ use Rattle.tlp.specs.declared.packet_type.PacketType.the-variants.{MRd32, MRd64
 use Rattle.tlp.specs.declared.packet.Packet.{Packet}
 use Rattle.tlp_read.specs.Read.{readRows, answerOf, readPacket, payloadOf}
 use Rattle.tlp_read.specs.Fields.{completionAt, addressAt, routeAt, kindAt, packetAt}
-use Rattle.tlp_read.specs.Completions.{hasCompletion, completionType, completionIn, completionRows}
+use Rattle.tlp_read.specs.Completions.{hasCompletion, completionType, completionPacket, completionRows}
 use Rattle.tlp_read.proofs.CompletionLaws.{completion-rows, completion-packet}
 use Rattle.reads_rules.specs.declared.read.Read.{Read}
 use Rattle.reads_rules.specs.declared.piece.Piece.{Piece}
@@ -78,7 +78,7 @@ unlaid-is : (n : ℕ) (laid store : List ℕ) → (n ≡ 0 → ⊥) → store �
 unlaid-is zero laid store h = absurd (h refl)
 unlaid-is (suc n) laid store h = refl
 
-module _ (o : Origin) (x : State) (bytes : List ℕ) (p : Packet) (c : Piece) (n : ℕ) (ep : p ≡ completionIn bytes) (ec : c ≡ pieceOf p) (en : n ≡ first (completionRows (o .settings .mps) (c .length) bytes)) where
+module _ (o : Origin) (x : State) (bytes : List ℕ) (p : Packet) (c : Piece) (n : ℕ) (ep : p ≡ completionPacket bytes) (ec : c ≡ pieceOf p) (en : n ≡ first (completionRows (o .settings .mps) (c .length) bytes)) where
   piece-is : c ≡ pieceAt bytes
   piece-is = ec ∙ ap pieceOf ep
 
@@ -187,20 +187,20 @@ byte-ten Unlisted bytes h = refl
 
 -- the bytes as a completion are one, with that tag and this payload
 module _ (bytes : List ℕ) where
-  as-completion : isCompletion (completionIn bytes) ≡ true
-  unfolding isCompletion completionIn packetAt kindAt routeAt typeOf
+  as-completion : isCompletion (completionPacket bytes) ≡ true
+  unfolding isCompletion completionPacket packetAt kindAt routeAt typeOf
   as-completion = go (eqb (byte bytes 0) 0x4A)
     where
       go : (b : Bool) → isCompletion (packetAt (pick b CplD Cpl) bytes) ≡ true
       go true = refl
       go false = refl
 
-  completion-tag : tagOf (completionIn bytes) ≡ byte bytes 10
-  unfolding completionIn
+  completion-tag : tagOf (completionPacket bytes) ≡ byte bytes 10
+  unfolding completionPacket
   completion-tag = byte-ten (completionType (byte bytes 0)) bytes as-completion
 
-  completion-payload : payloadOf (completionIn bytes) bytes ≡ take (4 * pieceAt bytes .length) (drop 12 bytes)
-  unfolding payloadOf completionIn pieceOf packetAt kindAt routeAt typeOf accessOf dataBytes
+  completion-payload : payloadOf (completionPacket bytes) bytes ≡ take (4 * pieceAt bytes .length) (drop 12 bytes)
+  unfolding payloadOf completionPacket pieceOf packetAt kindAt routeAt typeOf accessOf dataBytes
   completion-payload = go (eqb (byte bytes 0) 0x4A)
     where
       go : (b : Bool) → payloadOf (packetAt (pick b CplD Cpl) bytes) bytes ≡ take (4 * pieceOf (packetAt (pick b CplD Cpl) bytes) .length) (drop 12 bytes)
@@ -270,9 +270,9 @@ unfolding takeOutcome completionOutcome
 more-fits-in t tag bytes room d x e k h =
     let o = t .origin in
     let g = e ∙ more-piece (validTable t) (hasCompletion bytes) (numberIn o bytes) (first (readRows (o .settings) bytes)) (pieceOutcome o (stateAt t tag) (pieceAt bytes) room) (rw e at h) in
-    let a : d .answer ≡ packetAnswer o x (completionIn bytes) room = rw (g, k) (sym (answer-piece o (stateAt t tag) (completionIn bytes) room (as-completion bytes))) in
+    let a : d .answer ≡ packetAnswer o x (completionPacket bytes) room = rw (g, k) (sym (answer-piece o (stateAt t tag) (completionPacket bytes) room (as-completion bytes))) in
     let l : d .length ≡ pieceAt bytes .length = rw g in
-    rw l (more-le o x (completionIn bytes) room (d .answer) (pieceAt bytes) (readIn x) a h refl refl)
+    rw l (more-le o x (completionPacket bytes) room (d .answer) (pieceAt bytes) (readIn x) a h refl refl)
 
 -- what is stored is what the table after the answer has
 stored-given : (t : Table) (p : Packet) (a : TakeAnswer)
@@ -301,20 +301,20 @@ module _ (t : Table) (bytes : List ℕ) where
   abbrev outcomeTaking : Outcome → Taking
   outcomeTaking r = record { table = pick (takes (r .answer)) (withState t (byte bytes 10) (recordGiven (r .answer) seen (r .length))) t; answer = r .answer }
 
-  piece-done : (room : ℕ) → outcomeTaking (pieceOutcome (t .origin) seen (pieceAt bytes) room) ≡ packetTaking t (completionIn bytes) room
+  piece-done : (room : ℕ) → outcomeTaking (pieceOutcome (t .origin) seen (pieceAt bytes) room) ≡ packetTaking t (completionPacket bytes) room
   unfolding packetTaking
-  piece-done room = rw (← answer-piece (t .origin) seen (completionIn bytes) room (as-completion bytes), ← completion-tag bytes, stored-given t (completionIn bytes) _)
+  piece-done room = rw (← answer-piece (t .origin) seen (completionPacket bytes) room (as-completion bytes), ← completion-tag bytes, stored-given t (completionPacket bytes) _)
 
-  piece-left : (store : List ℕ) → pieceLaid (t .origin) seen (pieceAt bytes) (take (4 * pieceAt bytes .length) (drop 12 bytes)) store ≡ packetStore t (completionIn bytes) (payloadOf (completionIn bytes) bytes) store
+  piece-left : (store : List ℕ) → pieceLaid (t .origin) seen (pieceAt bytes) (take (4 * pieceAt bytes .length) (drop 12 bytes)) store ≡ packetStore t (completionPacket bytes) (payloadOf (completionPacket bytes) bytes) store
   unfolding packetStore
-  piece-left store = rw (completion-payload bytes, ← answer-piece (t .origin) seen (completionIn bytes) (length store) (as-completion bytes), ← completion-tag bytes)
+  piece-left store = rw (completion-payload bytes, ← answer-piece (t .origin) seen (completionPacket bytes) (length store) (as-completion bytes), ← completion-tag bytes)
 
   module _ (h : hasCompletion bytes ≡ true) (ok : settingsListed (t .origin .settings) ≡ true) where
     completion-done : (room : ℕ) → outcomeTaking (completionOutcome (t .origin) seen bytes room) ≡ answerTaking t (readPacket (t .origin .settings) bytes) room
     unfolding completionOutcome readPacket pieceOf
     completion-done room = rw (completion-rows bytes h (t .origin .settings) ok, completion-packet bytes h) (by (numberIn (t .origin) bytes))
       where
-        by : (n : ℕ) → outcomeTaking (numberedOutcome n (pieceOutcome (t .origin) seen (pieceAt bytes) room)) ≡ answerTaking t (answerOf n (completionIn bytes)) room
+        by : (n : ℕ) → outcomeTaking (numberedOutcome n (pieceOutcome (t .origin) seen (pieceAt bytes) room)) ≡ answerTaking t (answerOf n (completionPacket bytes)) room
         by zero = piece-done room
         by (suc n) = refl
 
@@ -322,7 +322,7 @@ module _ (t : Table) (bytes : List ℕ) where
     unfolding completionLaid readPacket pieceOf
     completion-left store = rw (completion-rows bytes h (t .origin .settings) ok, completion-packet bytes h) (by (numberIn (t .origin) bytes))
       where
-        by : (n : ℕ) → numberedLaid n (pieceLaid (t .origin) seen (pieceAt bytes) (take (4 * pieceAt bytes .length) (drop 12 bytes)) store) store ≡ answerStore t (answerOf n (completionIn bytes)) bytes store
+        by : (n : ℕ) → numberedLaid n (pieceLaid (t .origin) seen (pieceAt bytes) (take (4 * pieceAt bytes .length) (drop 12 bytes)) store) store ≡ answerStore t (answerOf n (completionPacket bytes)) bytes store
         by zero = piece-left store
         by (suc n) = refl
 

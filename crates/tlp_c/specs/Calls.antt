@@ -1,4 +1,5 @@
--- What the exported functions answer, by the packet definitions, and what they leave in what is lent to them. A reader must believe all of these.
+-- What the exported functions answer, by the packet definitions, and what they leave in what is lent to them. A reader
+-- must believe all of these.
 use Prim.Native.Nat.{ℕ}
 use mathlib.Core.List.{List}
 use Rattle.tlp.specs.declared.settings.Settings.{Settings}

@@ -1,6 +1,6 @@
--- Demand 2: "Writing then reading gives the same packet; reading then writing gives the same bytes with reserved bits cleared."
--- Document 01: "Reserved bits are ignored on reading". Proved in proofs/WriteRead.antt, proofs/ReadWrite.antt and
--- proofs/ReservedIgnored.antt. A reader must believe the three statements.
+-- Demand 2: "Writing then reading gives the same packet; reading then writing gives the same bytes with reserved bits
+-- cleared." Document 01: "Reserved bits are ignored on reading". Proved in proofs/WriteRead.antt, proofs/ReadWrite.antt
+-- and proofs/ReservedIgnored.antt. A reader must believe the three statements.
 use Prim.Native.Nat.{ℕ, _≤_}
 use mathlib.Core.Path.{_≡_}
 use mathlib.Core.List.{List}
@@ -15,7 +15,8 @@ use Rattle.tlp_write.specs.Layout.{bytesOf}
 use Rattle.tlp_write.specs.Write.{writePacket}
 use Rattle.tlp_write.specs.declared.WriteAnswer.the-variants.{Written}
 
--- Whatever the writer accepts: reading its bytes with the same settings gives the same packet and payload, and the size written is theirs.
+-- Whatever the writer accepts: reading its bytes with the same settings gives the same packet and payload, and the size
+-- written is theirs.
 abbrev pub WriteThenRead : Type 0
 WriteThenRead =
     (settings : Settings) (p : Packet) (payload : List ℕ) (room size : ℕ)
@@ -24,7 +25,8 @@ WriteThenRead =
     × ((payloadOf p (bytesOf p payload) ≡ payload)
     × (size ≡ length (bytesOf p payload)))
 
--- Whatever the reader accepts: writing it with the same settings is accepted where the output has room, and gives the bytes with reserved bits cleared.
+-- Whatever the reader accepts: writing it with the same settings is accepted where the output has room, and gives the
+-- bytes with reserved bits cleared.
 abbrev pub ReadThenWrite : Type 0
 ReadThenWrite =
     (settings : Settings) (packet : List ℕ) (p : Packet) (room : ℕ)

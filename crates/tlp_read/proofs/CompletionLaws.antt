@@ -22,7 +22,7 @@ use Rattle.tlp.specs.declared.packet_type.Family.the-variants.{Completion}
 use Rattle.tlp.proofs.FamilyLaws.{completion-types}
 use Rattle.tlp_read.specs.Fields.{routeAt, kindAt, packetAt}
 use Rattle.tlp_read.specs.Read.{hintOrAddressTypeSet, routingBad, formBad, readRows}
-use Rattle.tlp_read.specs.Completions.{hasCompletion, completionType, completionIn, completionRows}
+use Rattle.tlp_read.specs.Completions.{hasCompletion, completionType, completionPacket, completionRows}
 
 -- ---- byte 0
 
@@ -32,8 +32,8 @@ type-data b h = rw (eq-eqb b 0x4A h)
 pub type-plain : (b : ℕ) → (b ≡ 0x4A → ⊥) → Cpl ≡ completionType b
 type-plain b h = rw (ne-eqb b 0x4A h)
 
-pub packet-in : (bytes : List ℕ) (b : ℕ) (t : PacketType) (p : Packet) → b ≡ byte bytes 0 → t ≡ completionType b → p ≡ packetAt t bytes → p ≡ completionIn bytes
-unfolding completionIn
+pub packet-in : (bytes : List ℕ) (b : ℕ) (t : PacketType) (p : Packet) → b ≡ byte bytes 0 → t ≡ completionType b → p ≡ packetAt t bytes → p ≡ completionPacket bytes
+unfolding completionPacket
 packet-in bytes b t p eb et ep = rw (ep, et, eb)
 
 module _ (bytes : List ℕ) where
@@ -87,11 +87,11 @@ module _ (bytes : List ℕ) (h : hasCompletion bytes ≡ true) where
   header-and-type = and-eq-true-iff (leb 12 (length bytes)) (eqb (byte bytes 0) 0x4A || eqb (byte bytes 0) 0x0A) .0 h
 
   -- the first row that holds is 3 or 5
-  pub completion-rows : (c : Settings) → settingsListed c ≡ true → first (readRows c bytes) ≡ first (completionRows (c .mps) (accessOf (completionIn bytes) .length) bytes)
-  unfolding completionIn
+  pub completion-rows : (c : Settings) → settingsListed c ≡ true → first (readRows c bytes) ≡ first (completionRows (c .mps) (accessOf (completionPacket bytes) .length) bytes)
+  unfolding completionPacket
   completion-rows c ok = typed-rows c bytes (completionType (byte bytes 0)) ok (leb-true 12 (length bytes) (header-and-type .0)) (completion-type (byte bytes 0) (header-and-type .1)) (completion-family (byte bytes 0))
 
   -- and the packet is the bytes as a completion
-  pub completion-packet : packetAt (typeAt (byte bytes 0)) bytes ≡ completionIn bytes
-  unfolding completionIn
+  pub completion-packet : packetAt (typeAt (byte bytes 0)) bytes ≡ completionPacket bytes
+  unfolding completionPacket
   completion-packet = rw (completion-type (byte bytes 0) (header-and-type .1))

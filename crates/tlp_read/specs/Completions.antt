@@ -23,8 +23,8 @@ abbrev pub completionType : ℕ → PacketType
 completionType b = pick (eqb b 0x4A) CplD Cpl
 
 -- the bytes as a completion
-unfoldable pub completionIn : List ℕ → Packet
-completionIn bytes = packetAt (completionType (byte bytes 0)) bytes
+unfoldable pub completionPacket : List ℕ → Packet
+completionPacket bytes = packetAt (completionType (byte bytes 0)) bytes
 
 -- 3 and 5, of a completion of n doublewords: no other row of reading is about completions
 abbrev pub completionRows : ℕ → ℕ → List ℕ → List Row

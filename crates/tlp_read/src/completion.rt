@@ -6,7 +6,7 @@ use tlp::packet::Packet;
 use tlp::packet_type::PacketType;
 ghost use mathlib.Core.Path.{_≡_};
 ghost use Rattle.tlp.specs.Rows.{first};
-ghost use Rattle.tlp_read.specs.Completions.{hasCompletion, completionType, completionIn, completionRows};
+ghost use Rattle.tlp_read.specs.Completions.{hasCompletion, completionType, completionPacket, completionRows};
 
 // Whether byte 0 is that of Cpl or CplD, and the header there whole.
 pub fn has_completion(bytes: &[u8]) -> bool
@@ -33,7 +33,7 @@ fn completion_type(b0: u8) -> PacketType
 
 // The bytes as a completion.
 pub fn completion_packet(bytes: &[u8]) -> Packet
-    ensures { λ p. ⌜ p ≡ completionIn (now (bytes .entry)) ⌝ }
+    ensures { λ p. ⌜ p ≡ completionPacket (now (bytes .entry)) ⌝ }
 {
     packet_at(completion_type(byte_at(bytes, 0)), bytes)
 }

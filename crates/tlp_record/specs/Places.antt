@@ -1,4 +1,5 @@
--- Where the fields of a record start, as record.txt lists them, and its size. A reader must believe all of these; src/places.rt has the same numbers.
+-- Where the fields of a record start, as record.txt lists them, and its size. A reader must believe all of these;
+-- src/places.rt has the same numbers.
 use Prim.Native.Nat.{ℕ}
 
 abbrev pub recordSize : ℕ

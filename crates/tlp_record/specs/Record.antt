@@ -1,6 +1,6 @@
--- The packet record: what a packet holds as 48 bytes, the same for reading and writing. Numbers of several bytes have the high byte first.
--- A field that the packet's kind does not have is 0. docs/RECORD.md lists the layout. A reader must believe recordOf, recordPacket and isRecord,
--- with all that they are built from here.
+-- The packet record: what a packet holds as 48 bytes, the same for reading and writing. Numbers of several bytes have
+-- the high byte first. A field that the packet's kind does not have is 0. docs/RECORD.md lists the layout. A reader
+-- must believe recordOf, recordPacket and isRecord, with all that they are built from here.
 use Prim.Native.Nat.{ℕ}
 use mathlib.Core.Bool.{Bool, false}
 use mathlib.Core.List.{List, [], _∷_, _++_}
@@ -227,7 +227,7 @@ recordPacket fields = record {
   kind = kindIn fields;
 }
 
--- whether bytes are a record: that of the packet that they describe. One of another length than 48, of an unknown kind or route, or with
--- something in a field that the kind does not have, is not.
+-- whether bytes are a record: that of the packet that they describe. One of another length than 48, of an unknown kind
+-- or route, or with something in a field that the kind does not have, is not.
 unfoldable pub isRecord : List ℕ → Bool
 isRecord fields = sameList (recordOf (recordPacket fields)) fields

@@ -1,4 +1,5 @@
-// The packet record: a packet as 48 bytes, and back. What it is stands in specs/; crate tlp_record_read lays it, crate tlp_record_write reads it.
+// The packet record: a packet as 48 bytes, and back. What it is stands in specs/; crate tlp_record_read lays it, crate
+// tlp_record_write reads it.
 pub mod places;
 
 // A kind's number and the fields that only some kinds have, each 0 where the kind has none.

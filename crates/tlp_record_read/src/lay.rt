@@ -30,6 +30,13 @@ use tlp_read::fields::status_at;
 use tlp_read::fields::tag_at;
 use tlp_read::fields::traffic_class_at;
 use tlp_read::fields::whole_body_at;
+use tlp_record::places::BYTE_COUNT;
+use tlp_record::places::DIGEST;
+use tlp_record::places::EXTENDED_REGISTER;
+use tlp_record::places::KIND;
+use tlp_record::places::LENGTH;
+use tlp_record::places::MESSAGE_BYTES;
+use tlp_record::places::ROUTE_VALUE;
 ghost use mathlib.Core.Path.{_≡_};
 ghost use mathlib.Core.Bool.{false};
 ghost use mathlib.Core.List.{List, [], _∷_, _++_};
@@ -40,6 +47,8 @@ ghost use Rattle.bits.specs.Put.{put};
 ghost use Rattle.tlp.specs.PacketTypes.{isUnlisted};
 ghost use Rattle.tlp_read.specs.Fields.{digestWord, addressAt, messageRouteAt};
 ghost use Rattle.tlp_read.specs.Inner.Rows.{familyAt, Listed, HeaderThere, addressRead};
+ghost use Rattle.tlp_record.specs.Places.{kindPlace, routeValuePlace, messageBytesPlace, digestPlace, byteCountPlace};
+ghost use Rattle.tlp_record.specs.Places.{extendedRegisterPlace};
 ghost use Rattle.tlp_record.specs.Record.{routeCase, routeValue, sizesPart};
 ghost use Rattle.tlp_record_read.specs.Inner.Lay.{Room, frontRead, dataFlag, kindRead, lengthGiven, messageFront, requestPart, countedPart, registersPart, statusPart, recordLaid};
 
@@ -78,30 +87,42 @@ fn lay_number(at: usize, n: u32, record: &mut [u8])
 // The route's value, and a message's body.
 fn lay_value(value: u64, body: u64, record: &mut [u8])
     requires { ⌜ Room (now «record») ⌝ }
-    ensures { λ _. ⌜ now («record» .exit) ≡ put 16 (bytes 8 body) (put 8 (bytes 8 value) (now («record» .entry))) ⌝ }
+    ensures { λ _. ⌜ now («record» .exit)
+        ≡ put messageBytesPlace (bytes 8 body) (put routeValuePlace (bytes 8 value) (now («record» .entry))) ⌝ }
 {
-    lay(8, bytes64(value), record);
-    lay(16, bytes64(body), record);
+    lay(ROUTE_VALUE, bytes64(value), record);
+    lay(MESSAGE_BYTES, bytes64(body), record);
 }
 
 // Digest and length.
 fn lay_sizes(digest: u32, n: u32, record: &mut [u8])
     requires { ⌜ Room (now «record») ⌝ }
-    ensures { λ _. ⌜ now («record» .exit) ≡ put 24 (sizesPart digest n) (now («record» .entry)) ⌝ }
+    ensures { λ _. ⌜ now («record» .exit) ≡ put digestPlace (sizesPart digest n) (now («record» .entry)) ⌝ }
 {
-    lay_number(24, digest, record);
-    lay_number(28, n, record);
+    lay_number(DIGEST, digest, record);
+    lay_number(LENGTH, n, record);
 }
 
 // Byte count, the sender's ID and the enables.
 fn lay_count(count: u32, id: u16, first: u8, last: u8, record: &mut [u8])
     requires { ⌜ Room (now «record») ⌝ }
     ensures { λ _. ⌜ now («record» .exit)
-        ≡ put 32 (bytes 4 count ++ (bytes 2 id ++ (first ∷ last ∷ []))) (now («record» .entry)) ⌝ }
+        ≡ put byteCountPlace (bytes 4 count ++ (bytes 2 id ++ (first ∷ last ∷ []))) (now («record» .entry)) ⌝ }
 {
     let x = bytes32(count);
     let y = bytes16(id);
-    lay_bytes(32, x[0], x[1], x[2], x[3], y[0], y[1], first, last, record);
+    lay_bytes(
+        BYTE_COUNT,
+        x[0],
+        x[1],
+        x[2],
+        x[3],
+        y[0],
+        y[1],
+        first,
+        last,
+        record,
+    );
 }
 
 // ---- the parts, from the bytes
@@ -118,12 +139,12 @@ fn lay_front(
 )
     requires { ⌜ Room (now «record») ⌝ }
     ensures { λ _. ⌜ now («record» .exit)
-        ≡ put 0 (frontRead kind attributes route tag code (now (packet .entry))) (now («record» .entry)) ⌝ }
+        ≡ put kindPlace (frontRead kind attributes route tag code (now (packet .entry))) (now («record» .entry)) ⌝ }
 {
     let poisoned = flag_of(poisoned_at(packet));
     let digest = flag_of(digest_at(packet));
     lay_bytes(
-        0,
+        KIND,
         kind,
         traffic_class_at(packet),
         attributes,
@@ -149,7 +170,7 @@ fn kind_from(base: u8, packet: &[u8]) -> u8
 fn lay_request(digest: u32, n: u32, packet: &[u8], record: &mut [u8])
     requires { ⌜ Room (now «record») ⌝ }
     ensures { λ _. ⌜ now («record» .exit)
-        ≡ put 32 (requestPart (now (packet .entry))) (put 24 (sizesPart digest n) (now («record» .entry))) ⌝ }
+        ≡ put byteCountPlace (requestPart (now (packet .entry))) (put digestPlace (sizesPart digest n) (now («record» .entry))) ⌝ }
 {
     let first = first_enables_at(packet);
     let last = last_enables_at(packet);
@@ -163,16 +184,16 @@ fn lay_request(digest: u32, n: u32, packet: &[u8], record: &mut [u8])
 fn lay_bare(a: u8, b: u8, c: u8, d: u8, e: u8, f: u8, g: u8, h: u8, record: &mut [u8])
     requires { ⌜ Room (now «record») ⌝ }
     ensures { λ _. ⌜ now («record» .exit)
-        ≡ put 8 (bytes 8 (word 8 (a ∷ b ∷ c ∷ d ∷ e ∷ f ∷ g ∷ h ∷ []) 0 / 4 * 4)) (now («record» .entry)) ⌝ }
+        ≡ put routeValuePlace (bytes 8 (word 8 (a ∷ b ∷ c ∷ d ∷ e ∷ f ∷ g ∷ h ∷ []) 0 / 4 * 4)) (now («record» .entry)) ⌝ }
 {
-    lay_bytes(8, a, b, c, d, e, f, g, h / 4 * 4, record);
+    lay_bytes(ROUTE_VALUE, a, b, c, d, e, f, g, h / 4 * 4, record);
 }
 
 fn lay_wide(packet: &[u8], record: &mut [u8])
     requires { ⌜ 16 ≤ length (now packet) ⌝ }
     requires { ⌜ Room (now «record») ⌝ }
     ensures { λ _. ⌜ now («record» .exit)
-        ≡ put 8 (bytes 8 (addressAt 8 (now (packet .entry)))) (now («record» .entry)) ⌝ }
+        ≡ put routeValuePlace (bytes 8 (addressAt 8 (now (packet .entry)))) (now («record» .entry)) ⌝ }
 {
     lay_bare(
         packet[8],
@@ -191,7 +212,7 @@ fn lay_narrow(packet: &[u8], record: &mut [u8])
     requires { ⌜ 12 ≤ length (now packet) ⌝ }
     requires { ⌜ Room (now «record») ⌝ }
     ensures { λ _. ⌜ now («record» .exit)
-        ≡ put 8 (bytes 8 (addressAt 4 (now (packet .entry)))) (now («record» .entry)) ⌝ }
+        ≡ put routeValuePlace (bytes 8 (addressAt 4 (now (packet .entry)))) (now («record» .entry)) ⌝ }
 {
     lay_bare(
         0,
@@ -211,7 +232,7 @@ fn lay_address(packet: &[u8], record: &mut [u8])
     requires { ⌜ HeaderThere (now packet) ⌝ }
     requires { ⌜ Room (now «record») ⌝ }
     ensures { λ _. ⌜ now («record» .exit)
-        ≡ put 8 (bytes 8 (addressRead (now (packet .entry)))) (now («record» .entry)) ⌝ }
+        ≡ put routeValuePlace (bytes 8 (addressRead (now (packet .entry)))) (now («record» .entry)) ⌝ }
 {
     if is_wide(byte_at(packet, 0)) {
         lay_wide(packet, record);
@@ -238,9 +259,9 @@ fn put_memory(digest: u32, packet: &[u8], record: &mut [u8])
         record,
     );
     lay_address(packet, record);
-    lay(16, [0, 0, 0, 0, 0, 0, 0, 0], record);
+    lay(MESSAGE_BYTES, [0, 0, 0, 0, 0, 0, 0, 0], record);
     lay_request(digest, n, packet, record);
-    lay(40, [0, 0, 0, 0, 0, 0, 0, 0], record);
+    lay(EXTENDED_REGISTER, [0, 0, 0, 0, 0, 0, 0, 0], record);
 }
 
 fn put_io(digest: u32, packet: &[u8], record: &mut [u8])
@@ -261,7 +282,7 @@ fn put_io(digest: u32, packet: &[u8], record: &mut [u8])
     );
     lay_value(address32_at(packet), 0, record);
     lay_request(digest, n, packet, record);
-    lay(40, [0, 0, 0, 0, 0, 0, 0, 0], record);
+    lay(EXTENDED_REGISTER, [0, 0, 0, 0, 0, 0, 0, 0], record);
 }
 
 // Type 4 or 5, read or write.
@@ -274,11 +295,23 @@ fn config_kind(packet: &[u8]) -> u8
 
 fn lay_registers(packet: &[u8], record: &mut [u8])
     requires { ⌜ Room (now «record») ⌝ }
-    ensures { λ _. ⌜ now («record» .exit) ≡ put 40 (registersPart (now (packet .entry))) (now («record» .entry)) ⌝ }
+    ensures { λ _. ⌜ now («record» .exit)
+        ≡ put extendedRegisterPlace (registersPart (now (packet .entry))) (now («record» .entry)) ⌝ }
 {
     let extended = extended_register_at(packet);
     let register = register_at(packet);
-    lay_bytes(40, extended, register, 0, 0, 0, 0, 0, 0, record);
+    lay_bytes(
+        EXTENDED_REGISTER,
+        extended,
+        register,
+        0,
+        0,
+        0,
+        0,
+        0,
+        0,
+        record,
+    );
 }
 
 fn put_config(digest: u32, packet: &[u8], record: &mut [u8])
@@ -347,7 +380,7 @@ fn message_value(packet: &[u8]) -> u64
 fn lay_counted(digest: u32, n: u32, count: u32, id: u16, record: &mut [u8])
     requires { ⌜ Room (now «record») ⌝ }
     ensures { λ _. ⌜ now («record» .exit)
-        ≡ put 32 (countedPart count id) (put 24 (sizesPart digest n) (now («record» .entry))) ⌝ }
+        ≡ put byteCountPlace (countedPart count id) (put digestPlace (sizesPart digest n) (now («record» .entry))) ⌝ }
 {
     lay_sizes(digest, n, record);
     lay_count(count, id, 0, 0, record);
@@ -356,7 +389,8 @@ fn lay_counted(digest: u32, n: u32, count: u32, id: u16, record: &mut [u8])
 fn message_front(packet: &[u8], record: &mut [u8])
     requires { ⌜ Listed (now packet) ⌝ }
     requires { ⌜ Room (now «record») ⌝ }
-    ensures { λ _. ⌜ now («record» .exit) ≡ put 0 (messageFront (now (packet .entry))) (now («record» .entry)) ⌝ }
+    ensures { λ _. ⌜ now («record» .exit)
+        ≡ put kindPlace (messageFront (now (packet .entry))) (now («record» .entry)) ⌝ }
 {
     lay_front(
         kind_from(9, packet),
@@ -380,17 +414,29 @@ fn put_message(digest: u32, packet: &[u8], record: &mut [u8])
     message_front(packet, record);
     lay_value(message_value(packet), whole_body_at(packet), record);
     lay_counted(digest, n, 0, requester_at(packet), record);
-    lay(40, [0, 0, 0, 0, 0, 0, 0, 0], record);
+    lay(EXTENDED_REGISTER, [0, 0, 0, 0, 0, 0, 0, 0], record);
 }
 
 fn lay_status(packet: &[u8], record: &mut [u8])
     requires { ⌜ Room (now «record») ⌝ }
-    ensures { λ _. ⌜ now («record» .exit) ≡ put 40 (statusPart (now (packet .entry))) (now («record» .entry)) ⌝ }
+    ensures { λ _. ⌜ now («record» .exit)
+        ≡ put extendedRegisterPlace (statusPart (now (packet .entry))) (now («record» .entry)) ⌝ }
 {
     let status = status_at(packet);
     let modified = flag_of(byte_count_modified_at(packet));
     let lower = lower_address_field_at(packet);
-    lay_bytes(40, 0, 0, status, modified, lower, 0, 0, 0, record);
+    lay_bytes(
+        EXTENDED_REGISTER,
+        0,
+        0,
+        status,
+        modified,
+        lower,
+        0,
+        0,
+        0,
+        record,
+    );
 }
 
 fn put_completion(digest: u32, packet: &[u8], record: &mut [u8])

@@ -6,6 +6,7 @@ use tlp::packet_type::family_by_type;
 use tlp::settings::Settings;
 use tlp_read::fields::digest_word;
 use tlp_read::read_number;
+use tlp_record::places::RECORD_SIZE;
 ghost use mathlib.Core.Path.{_≡_};
 ghost use lib.ListN.{length};
 ghost use Rattle.tlp_read.specs.Read.{readPacket};
@@ -22,7 +23,7 @@ pub fn read_record(settings: Settings, packet: &[u8], record: &mut [u8]) -> u32
     if n != 0 {
         return n;
     }
-    if record.len() < 48 {
+    if record.len() < RECORD_SIZE {
         return 12;
     }
     let digest = digest_word(packet);

@@ -1,4 +1,5 @@
--- Writing the packet that a record describes: 11, then 6 for what is no record, then as the writer. A reader must believe recordAnswer and recordOut.
+-- Writing the packet that a record describes: 11, then 6 for what is no record, then as the writer. A reader must
+-- believe recordAnswer and recordOut.
 use Prim.Native.Nat.{ℕ}
 use mathlib.Core.Bool.{not}
 use mathlib.Core.List.{List}

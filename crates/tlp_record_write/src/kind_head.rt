@@ -1,4 +1,5 @@
-// What a record's kind decides: whether it can be written, and the part of its head that not every kind has alike. One branch by kind for both.
+// What a record's kind decides: whether it can be written, and the part of its head that not every kind has alike. One
+// branch by kind for both.
 use crate::kinds::completion_fits;
 use crate::kinds::config_fits;
 use crate::kinds::io_fits;

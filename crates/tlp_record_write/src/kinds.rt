@@ -1,4 +1,5 @@
-// What is looked at in the records of some kinds only: what a kind does not have is 0, what it has is within its bounds.
+// What is looked at in the records of some kinds only: what a kind does not have is 0, what it has is within its
+// bounds.
 use crate::place::eight;
 use crate::place::four;
 use crate::place::one;

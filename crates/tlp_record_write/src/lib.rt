@@ -29,8 +29,10 @@ pub fn write_record(
     payload: &[u8],
     out: &mut [u8],
 ) -> WriteAnswer
-    ensures { λ r. ⌜ r ≡ recordAnswer settings (now («record» .entry)) (length (now (payload .entry))) (length (now (out .entry))) ⌝ }
-    ensures { λ _. ⌜ now (out .exit) ≡ recordOut settings (now («record» .entry)) (now (payload .entry)) (now (out .entry)) ⌝ }
+    ensures { λ r. ⌜ r
+        ≡ recordAnswer settings (now («record» .entry)) (length (now (payload .entry))) (length (now (out .entry))) ⌝ }
+    ensures { λ _. ⌜ now (out .exit)
+        ≡ recordOut settings (now («record» .entry)) (now (payload .entry)) (now (out .entry)) ⌝ }
 {
     if !settings_listed(settings) {
         return refused(11);

@@ -1,4 +1,5 @@
-// What is looked at alike in the record of every kind. Numbers are read where they are looked at: one load for all of their bytes.
+// What is looked at alike in the record of every kind. Numbers are read where they are looked at: one load for all of
+// their bytes.
 use crate::place::eight;
 use crate::place::four;
 use crate::place::one;
@@ -44,7 +45,8 @@ fn route_kept(route: u8, record: &[u8]) -> bool
 // With TD clear the digest is 0, else the writer gives 6.
 fn common_over(traffic_class: u8, attributes: u8, has_digest: u8, record: &[u8]) -> bool
     requires { ⌜ length (now «record») ≡ recordSize ⌝ }
-    ensures { λ r. ⌜ r ≡ commonOver «traffic_class» attributes «has_digest» (word 4 (now («record» .entry)) digestPlace) ⌝ }
+    ensures { λ r. ⌜ r
+        ≡ commonOver «traffic_class» attributes «has_digest» (word 4 (now («record» .entry)) digestPlace) ⌝ }
 {
     if 8 <= traffic_class {
         return true;

@@ -1,5 +1,5 @@
--- Document 01, the header layout: the bytes that a packet is written as. Reserved bits are zero. A reader must believe bytesOf and sizeOf, with all
--- that they are built from here.
+-- Document 01, the header layout: the bytes that a packet is written as. Reserved bits are zero. A reader must believe
+-- bytesOf and sizeOf, with all that they are built from here.
 use Prim.Native.Nat.{ℕ, _+_, _*_, _/_, _%_, _^_}
 use mathlib.Core.Bool.{Bool, true, false}
 use mathlib.Core.List.{List, [], _∷_, _++_}

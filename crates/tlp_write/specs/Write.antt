@@ -1,5 +1,6 @@
--- Document 01, the writer: its numbers in its order, what it answers, and what the output holds afterwards. A reader must believe writeRows,
--- writePacket, writeOut and what they are built from here, and that numberOf gives an answer its number.
+-- Document 01, the writer: its numbers in its order, what it answers, and what the output holds afterwards. A reader
+-- must believe writeRows, writePacket, writeOut and what they are built from here, and that numberOf gives an answer
+-- its number.
 use Prim.Native.Nat.{ℕ, zero, suc}
 use mathlib.Core.Bool.{not}
 use mathlib.Core.List.{List, [], _∷_, _++_}
@@ -22,8 +23,9 @@ use Rattle.tlp_write.specs.declared.WriteAnswer.the-variants.{Written, R
 abbrev pub fieldRows : Settings → Packet → List Row
 fieldRows settings p = row 11 (not (settingsListed settings)) ∷ givenRows p
 
--- the rows after these: "3 if the payload lent is not 4 x length bytes, or not empty for a kind without data; 5 to 9 as above; last 12 if the
--- output is shorter than the packet." n is the payload's size, room the output's. AT is written 0, and no route has routing 110 or 111 (row 9).
+-- the rows after these: "3 if the payload lent is not 4 x length bytes, or not empty for a kind without data; 5 to 9 as
+-- above; last 12 if the output is shorter than the packet." n is the payload's size, room the output's. AT is written
+-- 0, and no route has routing 110 or 111 (row 9).
 abbrev pub laterRows : Settings → Packet → ℕ → ℕ → List Row
 laterRows settings p n room =
     row 3 (not (eqb n (dataBytes (typeOf p) (accessOf p .length))))

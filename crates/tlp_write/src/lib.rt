@@ -99,7 +99,8 @@ fn judged_number(
 // Header and payload over the front of the output; returns their size.
 fn put_front(h: Head, payload: &[u8], out: &mut [u8]) -> usize
     requires { ⌜ length (headBytes h ++ now payload) ≤ length (now out) ⌝ }
-    ensures { λ r. ⌜ (r ≡ length (headBytes h ++ now (payload .entry))) × (now (out .exit) ≡ put 0 (headBytes h ++ now (payload .entry)) (now (out .entry))) ⌝ }
+    ensures { λ r. ⌜ (r ≡ length (headBytes h ++ now (payload .entry)))
+        × (now (out .exit) ≡ put 0 (headBytes h ++ now (payload .entry)) (now (out .entry))) ⌝ }
 {
     let words = h.words;
     let t = h.packet_type;
@@ -110,7 +111,8 @@ fn put_front(h: Head, payload: &[u8], out: &mut [u8]) -> usize
 // Header, payload and digest over the front of the output.
 fn put_packet(h: Head, payload: &[u8], out: &mut [u8])
     requires { ⌜ length (headBytes h ++ (now payload ++ headDigest h)) ≤ length (now out) ⌝ }
-    ensures { λ _. ⌜ now (out .exit) ≡ overFront (headBytes h ++ (now (payload .entry) ++ headDigest h)) (now (out .entry)) ⌝ }
+    ensures { λ _. ⌜ now (out .exit)
+        ≡ overFront (headBytes h ++ (now (payload .entry) ++ headDigest h)) (now (out .entry)) ⌝ }
 {
     let n = put_front(h, payload, out);
     put::put_digest(h.has_digest, h.digest, n, out);
@@ -132,8 +134,8 @@ fn write_judged(mps: u32, h: Head, fault: u32, payload: &[u8], out: &mut [u8]) -
     WriteAnswer::Written(size)
 }
 
-// The packet that a head stands for, over the front of the output, for who knows that the settings are listed and no field of the packet has a
-// row of 6 at its first place: the rows 3, 5, 6 to 8 and 12 are looked at.
+// The packet that a head stands for, over the front of the output, for who knows that the settings are listed and no
+// field of the packet has a row of 6 at its first place: the rows 3, 5, 6 to 8 and 12 are looked at.
 pub fn write_head(mps: u32, h: Head, payload: &[u8], out: &mut [u8]) -> WriteAnswer
     ensures { λ r. ⌜ r ≡ headAnswer mps h (length (now (payload .entry))) (length (now (out .entry))) ⌝ }
     ensures { λ _. ⌜ now (out .exit) ≡ headOut mps h (now (payload .entry)) (now (out .entry)) ⌝ }
@@ -141,7 +143,8 @@ pub fn write_head(mps: u32, h: Head, payload: &[u8], out: &mut [u8]) -> WriteAns
     write_judged(mps, h, listed_fault(h.fault), payload, out)
 }
 
-// The packet over the front of the output, for who knows that no row of its fields holds: of the rows 3, 5 and 12 alone are looked at.
+// The packet over the front of the output, for who knows that no row of its fields holds: of the rows 3, 5 and 12 alone
+// are looked at.
 pub fn lay_packet(mps: u32, p: Packet, payload: &[u8], out: &mut [u8]) -> WriteAnswer
     ensures { λ r. ⌜ r ≡ layAnswer mps p (length (now (payload .entry))) (length (now (out .entry))) ⌝ }
     ensures { λ _. ⌜ now (out .exit) ≡ layOut mps p (now (payload .entry)) (now (out .entry)) ⌝ }

@@ -15,7 +15,8 @@ ghost use Rattle.tlp_write.specs.Inner.Head.{wordBytes};
 // Lays src over out from index at on, and returns the index after it.
 pub(crate) fn put_at(at: usize, src: &[u8], out: &mut [u8]) -> usize
     requires { ⌜ at + length (now src) ≤ length (now out) ⌝ }
-    ensures { λ r. ⌜ (r ≡ at + length (now (src .entry))) × (now (out .exit) ≡ put at (now (src .entry)) (now (out .entry))) ⌝ }
+    ensures { λ r. ⌜ (r ≡ at + length (now (src .entry)))
+        × (now (out .exit) ≡ put at (now (src .entry)) (now (out .entry))) ⌝ }
 {
     at + bytes::copy(src, &mut out[at..])
 }
@@ -40,7 +41,8 @@ fn put_four(at: usize, x: u32, out: &mut [u8])
 // Lays a header over the front of the output, and returns its size.
 pub(crate) fn put_words(front: u32, w: Words, wide: bool, out: &mut [u8]) -> usize
     requires { ⌜ pick wide 16 12 ≤ length (now out) ⌝ }
-    ensures { λ r. ⌜ (r ≡ pick wide 16 12) × (now (out .exit) ≡ put 0 (take (pick wide 16 12) (bytes 4 front ++ wordBytes w)) (now (out .entry))) ⌝ }
+    ensures { λ r. ⌜ (r ≡ pick wide 16 12)
+        × (now (out .exit) ≡ put 0 (take (pick wide 16 12) (bytes 4 front ++ wordBytes w)) (now (out .entry))) ⌝ }
 {
     put_eight(0, join64(front, w.second), out);
     if wide {

@@ -17,7 +17,8 @@ ghost use Rattle.tlp_write.specs.Layout.{requestBytes, memoryAddress, co
 ghost use Rattle.tlp_write.specs.Inner.Padded.{padded};
 ghost use Rattle.tlp_write.specs.Inner.Head.{wordBytes};
 
-// Bytes 4 to 7, and bytes 8 to 15; a header of three doublewords ends after the high half of these, and the low half is 0.
+// Bytes 4 to 7, and bytes 8 to 15; a header of three doublewords ends after the high half of these, and the low half is
+// 0.
 pub struct Words {
     pub second: u32,
     pub tail: u64,

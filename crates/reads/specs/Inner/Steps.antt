@@ -8,7 +8,7 @@ use lib.ListN.{length, take, drop}
 use Rattle.bits.specs.Choice.{pick}
 use Rattle.tlp.specs.Rows.{Row, row, first}
 use Rattle.tlp_read.specs.Read.{readRows}
-use Rattle.tlp_read.specs.Completions.{hasCompletion, completionIn, completionRows}
+use Rattle.tlp_read.specs.Completions.{hasCompletion, completionPacket, completionRows}
 use Rattle.tlp_write.specs.declared.WriteAnswer.{WriteAnswer}
 use Rattle.tlp_write.specs.declared.WriteAnswer.the-variants.{Written, Refused as Unwritten}
 use Rattle.reads_rules.specs.declared.request.ReadRequest.{ReadRequest}
@@ -92,7 +92,7 @@ pieceOutcome o x c room = record { answer = pieceAnswer o x c room; length = c .
 
 -- the bytes as a completion, and the reader's number for it
 abbrev pub pieceAt : List ℕ → Piece
-pieceAt bytes = pieceOf (completionIn bytes)
+pieceAt bytes = pieceOf (completionPacket bytes)
 
 abbrev pub numberIn : Origin → List ℕ → ℕ
 numberIn o bytes = first (completionRows (o .settings .mps) (pieceAt bytes .length) bytes)

@@ -9,11 +9,12 @@ use Rattle.tlp.specs.PacketTypes.{packetTypeAt, hasData}
 use Rattle.tlp.specs.Sizes.{lengthAt, digestAt}
 use Rattle.tlp_read.specs.Fields.{trafficClassAt, allAttributesAt, poisonedAt, requesterAt, tagAt, firstEnablesAt, lastEnablesAt, extendedRegisterAt, registerAt, codeAt}
 use Rattle.tlp_read.specs.Fields.{statusAt, byteCountModifiedAt, lowerAddressFieldAt, messageRouteAt, kindAt, packetAt}
+use Rattle.tlp_record.specs.Places.{recordSize}
 use Rattle.tlp_record.specs.Record.{fieldsOf, routeCase, recordOf}
 
 -- a record fits
 abbrev pub Room : List ℕ → Type 0
-Room out = 48 ≤ length out
+Room out = recordSize ≤ length out
 
 -- bytes 0 to 7
 abbrev pub frontRead : ℕ → ℕ → ℕ → ℕ → ℕ → List ℕ → List ℕ

@@ -1,4 +1,5 @@
--- For the contracts of kinds.rt: what is looked at in the records of some kinds only (docs/RECORD.md): what a kind does not have is 0, what it has is within its bounds.
+-- For the contracts of kinds.rt: what is looked at in the records of some kinds only (docs/RECORD.md): what a kind does
+-- not have is 0, what it has is within its bounds.
 use Prim.Native.Nat.{ℕ, _%_, _/_, _^_}
 use mathlib.Core.Bool.{Bool, _&&_, _||_, not}
 use mathlib.Core.List.{List}

@@ -1,5 +1,6 @@
--- For the contract of write_head, on which the writer of records builds, and of what writes a head: what writing needs to know of a packet
--- beside its payload, the header in words. Of a packet's own head it is what specs/Write says (IsHead; proofs/WriteLaws).
+-- For the contract of write_head, on which the writer of records builds, and of what writes a head: what writing needs
+-- to know of a packet beside its payload, the header in words. Of a packet's own head it is what specs/Write says
+-- (IsHead; proofs/WriteLaws).
 use Prim.Native.Nat.{ℕ, _+_, _*_}
 use mathlib.Core.Path.{_≡_}
 use mathlib.Core.Bool.{not}

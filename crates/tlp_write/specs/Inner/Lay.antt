@@ -1,5 +1,5 @@
--- For the contract of lay_packet, on which the table's open builds: writing for who knows that no row of the packet's fields holds, so that of
--- the rows 3, 5 and 12 alone are looked at. n is the payload's size, room the output's.
+-- For the contract of lay_packet, on which the table's open builds: writing for who knows that no row of the packet's
+-- fields holds, so that of the rows 3, 5 and 12 alone are looked at. n is the payload's size, room the output's.
 use Prim.Native.Nat.{ℕ}
 use mathlib.Core.Bool.{not}
 use mathlib.Core.List.{List, [], _∷_}
