@@ -5,7 +5,8 @@ Names: a marked name is in a file that its section names, or is a function or ty
 section that names no files under "In" uses those above it too. What follows vectors, script and captures is a function that makes
 them; what follows edit is an edit, with its crate (crate/edit) where two crates have one of that name. No edit is left out, and no
 public function; the contract of each has the definition that the last section puts beside it, says what it leaves in what it is lent
-for change, and has no requires. A program has no public function.
+for change, and has no requires. A function that answers nothing and is lent nothing for change has no result to state, and needs no
+contract: what it prints no contract can say. Benchmarks are held to the same. A program has no public function.
 
 Quotations: a text in double quotation marks in a comment of crates/*/specs stands in the papers, as PROMISES quotes them (`> ..`).
 White space, backticks and the case of the first letter don't count; an omission is ` .. `. A quotation with omissions has its parts in
@@ -183,14 +184,18 @@ def index(text):
 
 
 def contract(crate, function):
-    """What stands between a public function's name and its body."""
+    """What stands between a public function's name and its body, which begins on a line of its own where there are clauses."""
     source = "\n".join(read(n) for n in found("crates/%s/src/**/*.rt" % crate))
-    return re.search(r'(?s)\bpub (?:extern "C" )?fn %s\b(.*?)\n\s*\{\n' % function, source).group(1)
+    text = re.search(r'(?s)\bpub (?:extern "C" )?fn %s\b(.*)' % function, source).group(1)
+    signature = re.match(r"(?s)(.*?)(?: \{\n|\n\s*(?:requires|ensures)\b)", text)
+    return signature.group(1) if signature.group(0).endswith("{\n") else re.match(r"(?s)(.*?)\n\s*\{\n", text).group(1)
 
 
 def contract_faults(crate, function, bracket, own):
     """No requires; the definition of the function's name, if the bracket is not its own, or all that the bracket has; what it leaves."""
     text = contract(crate, function)
+    if not re.search(r"->|&mut |\bensures\b|\brequires\b", text):
+        return
     words = set(re.findall(r"[\w-]+", text.partition("ensures")[2]))
     parts = function.split("_")
     same = not own and parts[0] + "".join(p.capitalize() for p in parts[1:]) in words
