@@ -4,8 +4,8 @@ record.txt, the definitions to believe, the lines of each crate, the must-fail e
 
     documents.py --write    fill them
     documents.py --check    fail, with a line for each fault, where a part is not what it would be filled with, a document is larger than
-                            it may be, a line is too wide, a name stands for nothing in the tree, or README shows another answer than the
-                            second implementation gives
+                            it may be, a line is too wide, a name stands for nothing in the tree, a public function has no row in
+                            docs/TESTING.md, or README shows another answer than the second implementation gives
 """
 import glob
 import os
@@ -320,6 +320,17 @@ def missing_names(name):
     return ["%s: nothing is called %s" % (name, word) for word in dict.fromkeys(words) if not is_there(word, names)]
 
 
+def functions_left_out(name):
+    """The public functions that a document does not name."""
+    named = {(word[0], word[1]) for word in re.findall(r"`([a-z]\w*)::(?:\w+::)*(\w+)`", text_of(name))}
+    found = []
+    for crate in crates():
+        for source in files_below(path("crates", crate, "src"), ".rt"):
+            public = re.findall(r'(?m)^\s*pub (?:extern "C" )?fn (\w+)', text_of(source))
+            found += ["%s: %s::%s is left out" % (name, crate, f) for f in public if (crate, f) not in named]
+    return found
+
+
 def shown(name, words):
     """The rows of a document's tables that begin with one of the words as code, and what the second column has as code."""
     rows = re.findall(r"(?m)^\| `((?:%s)\b.*?)` \| (.*) \|$" % words, text_of(name))
@@ -348,7 +359,7 @@ def faults():
         found += wide_lines(name)
         if name not in NAMES_UNCHECKED:
             found += missing_names(name)
-    return found + long_entries("docs/LANDINGS.md") + wrong_examples("README.md")
+    return found + long_entries("docs/LANDINGS.md") + functions_left_out("docs/TESTING.md") + wrong_examples("README.md")
 
 
 def write():
