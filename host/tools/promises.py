@@ -194,15 +194,18 @@ def contract(crate, function):
 def contract_faults(crate, function, bracket, own):
     """No requires; the definition of the function's name, if the bracket is not its own, or all that the bracket has; what it leaves."""
     text = contract(crate, function)
-    if not re.search(r"->|&mut |\bensures\b|\brequires\b", text):
+    stated = text.partition("ensures")[2]
+    if re.search(r"\brequires\b", text):
+        yield "has a requires"
+    if not stated:
+        if re.search(r"->|&mut ", text):
+            yield "states nothing"
         return
-    words = set(re.findall(r"[\w-]+", text.partition("ensures")[2]))
+    words = set(re.findall(r"[\w-]+", stated))
     parts = function.split("_")
     same = not own and parts[0] + "".join(p.capitalize() for p in parts[1:]) in words
     if not same and not (bracket and all(name in words for name in marked(bracket))):
         yield "does not have the definition beside it"
-    if re.search(r"\brequires\b", text):
-        yield "has a requires"
     for lent in re.findall(r"(\w+): &mut ", text):
         if not re.search(r"\(«?%s»? \.exit\)" % lent, text):
             yield "does not say what it leaves in " + lent
