@@ -134,14 +134,14 @@ module _ (b0 b1 b2 b3 : ℕ) (rest : List ℕ) where
 pub record AddressFits (w : ℕ) (r : Route) : Type 0 where
   pub same : Address (addressOf r) ≡ r
   pub fits : addressOf r < 2 ^ w
-  pub whole : addressOf r % 4 ≡ 0
+  pub on-four : addressOf r % 4 ≡ 0
 
 pub address-fits : (w : ℕ) (r : Route) → addressRouteBad w r ≡ false → AddressFits w r
 unfolding addressRouteBad
 address-fits w (Address a) e = record {
   same = refl;
   fits = fits w a (left-no _ _ e);
-  whole = eqb-true (a % 4) 0 (not-false (eqb (a % 4) 0) (right-no (over w a) _ e));
+  on-four = eqb-true (a % 4) 0 (not-false (eqb (a % 4) 0) (right-no (over w a) _ e));
 }
 address-fits w (Id i) e = absurd (true≢false e)
 address-fits w (Implied i) e = absurd (true≢false e)
@@ -149,10 +149,10 @@ address-fits w (Implied i) e = absurd (true≢false e)
 -- the address is read back from k bytes
 pub address-route : (k : ℕ) {w : ℕ} {r : Route} → AddressFits w r → addressOf r < 256 ^ k
     → Address (word k (bytes k (addressOf r) ++ []) 0 / 4 * 4) ≡ r
-address-route k {r} a h = ap Address (whole (word-bytes k (addressOf r) [] h)) ∙ a .same
+address-route k {r} a h = ap Address (on-four (word-bytes k (addressOf r) [] h)) ∙ a .same
   where
-    whole : {x : ℕ} → x ≡ addressOf r → x / 4 * 4 ≡ addressOf r
-    whole e = omega (arith, a .whole)
+    on-four : {x : ℕ} → x ≡ addressOf r → x / 4 * 4 ≡ addressOf r
+    on-four e = omega (arith, a .on-four)
 
 pub id-route : (r : Route) → idRouteBad r ≡ false → Id (word 2 (bytes 2 (idOf r) ++ []) 0) ≡ r
 unfolding idRouteBad

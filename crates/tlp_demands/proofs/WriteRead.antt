@@ -111,8 +111,8 @@ module _ (p : Packet) (payload : List ℕ) (f : Fit p payload) where
   four : eqb (headerDw (typeOf p)) 4 && ltb (length (bytesOf p payload)) 16 ≡ false
   four = no-both (eqb (headerDw (typeOf p)) 4) _ (λ e. le-ltb (length (bytesOf p payload)) 16 (omega (arith, long, eqb-true (headerDw (typeOf p)) 4 e)))
 
-  whole : not (eqb (length (bytesOf p payload)) (bytesCalled (typeOf p) (bytesOf p payload))) ≡ false
-  whole = ap not (eq-eqb _ _ (packet-size ∙ sym called))
+  size-is : not (eqb (length (bytesOf p payload)) (bytesCalled (typeOf p) (bytesOf p payload))) ≡ false
+  size-is = ap not (eq-eqb _ _ (packet-size ∙ sym called))
 
   hints : hintOrAddressTypeSet (typeOf p) (bytesOf p payload) ≡ false
   unfolding hintOrAddressTypeSet
@@ -128,7 +128,7 @@ module _ (p : Packet) (payload : List ℕ) (f : Fit p payload) where
       → NoneHold (readRows c (bytesOf p payload))
   read-rows c s h =
       let (r5, (r6, (r7, (r8, _)))) = content (c .mps) h in
-      rw (own .type) (s, (three, (own .listed, (four, (whole, (hints, (r5, (r6, (r7, (r8, (own .routing, (own .form, tt))))))))))))
+      rw (own .type) (s, (three, (own .listed, (four, (size-is, (hints, (r5, (r6, (r7, (r8, (own .routing, (own .form, tt))))))))))))
 
 -- an answer that is no refusal has no number
 write-zero : (n size size′ : ℕ) → writeAnswer n size ≡ Written size′ → (n ≡ 0) × (size ≡ size′)

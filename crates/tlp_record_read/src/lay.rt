@@ -170,7 +170,8 @@ fn kind_from(base: u8, packet: &[u8]) -> u8
 fn lay_request(digest: u32, n: u32, packet: &[u8], record: &mut [u8])
     requires { ⌜ Room (now «record») ⌝ }
     ensures { λ _. ⌜ now («record» .exit)
-        ≡ put byteCountPlace (requestPart (now (packet .entry))) (put digestPlace (sizesPart digest n) (now («record» .entry))) ⌝ }
+        ≡ put byteCountPlace (requestPart (now (packet .entry)))
+        (put digestPlace (sizesPart digest n) (now («record» .entry))) ⌝ }
 {
     let first = first_enables_at(packet);
     let last = last_enables_at(packet);
@@ -184,7 +185,8 @@ fn lay_request(digest: u32, n: u32, packet: &[u8], record: &mut [u8])
 fn lay_bare(a: u8, b: u8, c: u8, d: u8, e: u8, f: u8, g: u8, h: u8, record: &mut [u8])
     requires { ⌜ Room (now «record») ⌝ }
     ensures { λ _. ⌜ now («record» .exit)
-        ≡ put routeValuePlace (bytes 8 (word 8 (a ∷ b ∷ c ∷ d ∷ e ∷ f ∷ g ∷ h ∷ []) 0 / 4 * 4)) (now («record» .entry)) ⌝ }
+        ≡ put routeValuePlace (bytes 8 (word 8 (a ∷ b ∷ c ∷ d ∷ e ∷ f ∷ g ∷ h ∷ []) 0 / 4 * 4))
+        (now («record» .entry)) ⌝ }
 {
     lay_bytes(ROUTE_VALUE, a, b, c, d, e, f, g, h / 4 * 4, record);
 }

@@ -33,9 +33,9 @@ all-append [] ys = refl
 all-append (true ∷ xs) ys = all-append xs ys
 all-append (false ∷ xs) ys = refl
 
-after : (a b c : Bool) → (a && b) && c ≡ a && (b && c)
-after true b c = refl
-after false b c = refl
+regrouped : (a b c : Bool) → (a && b) && c ≡ a && (b && c)
+regrouped true b c = refl
+regrouped false b c = refl
 
 flag-later : (a b x f y c : Bool) → a && (b && (x && (f && (y && c)))) ≡ (a && (b && (x && y))) && (f && c)
 flag-later false b x f y c = refl
@@ -44,9 +44,9 @@ flag-later true true false f y c = refl
 flag-later true true true true y c = refl
 flag-later true true true false y c = sym (and-false y)
 
-after-three : (a b c t : Bool) → (a && (b && c)) && t ≡ a && (b && (c && t))
-after-three true b c t = after b c t
-after-three false b c t = refl
+regrouped-three : (a b c t : Bool) → (a && (b && c)) && t ≡ a && (b && (c && t))
+regrouped-three true b c t = regrouped b c t
+regrouped-three false b c t = refl
 
 -- with a length o that is looked at first
 length-first : (o z b t : Bool) → z && (not (o || b) && t) ≡ not o && (z && (not b && t))
@@ -246,7 +246,7 @@ module _ (s : List ℕ) (len : length s ≡ 48) (each : (i : ℕ) → Fits w8 (b
   message-bare : 9 ≡ byte s 0 → restAt 9 ≡ messageFits false s
   unfolding messageFits ownBad routeBad messageIn
   message-bare e =
-      rw (message-zero s 9 e 0, message-none s small, message-route s small (byte s 5) known) (after (eqb (word 4 s 28) 0) _ _)
+      rw (message-zero s 9 e 0, message-none s small, message-route s small (byte s 5) known) (regrouped (eqb (word 4 s 28) 0) _ _)
 
   message-data : 10 ≡ byte s 0 → restAt 10 ≡ messageFits true s
   unfolding messageFits ownBad routeBad messageIn
@@ -257,13 +257,13 @@ module _ (s : List ℕ) (len : length s ≡ 48) (each : (i : ℕ) → Fits w8 (b
   completion-bare : 11 ≡ byte s 0 → restAt 11 ≡ completionFits false s
   unfolding completionFits ownBad routeBad
   completion-bare e = rw (completion-zero s 11 e small 0, completion-over s small, id-route s small (byte s 5) known)
-      (after (eqb (word 4 s 28) 0) (allZero (byte s 7) (word 8 s 16) (word 2 s 40) (word 8 s 40 % 2 ^ 24) && (leb (byte s 43) 1 && eqb (word 2 s 38) 0)) _ ∙ ap (λ (b : Bool). eqb (word 4 s 28) 0 && b) (after-three (allZero (byte s 7) (word 8 s 16) (word 2 s 40) (word 8 s 40 % 2 ^ 24)) (leb (byte s 43) 1) (eqb (word 2 s 38) 0) _))
+      (regrouped (eqb (word 4 s 28) 0) (allZero (byte s 7) (word 8 s 16) (word 2 s 40) (word 8 s 40 % 2 ^ 24) && (leb (byte s 43) 1 && eqb (word 2 s 38) 0)) _ ∙ ap (λ (b : Bool). eqb (word 4 s 28) 0 && b) (regrouped-three (allZero (byte s 7) (word 8 s 16) (word 2 s 40) (word 8 s 40 % 2 ^ 24)) (leb (byte s 43) 1) (eqb (word 2 s 38) 0) _))
 
   completion-data : 12 ≡ byte s 0 → restAt 12 ≡ completionFits true s
   unfolding completionFits ownBad routeBad
   completion-data e =
       rw (completion-zero s 12 e small (word 4 s 28), eqb-self (word 4 s 28), completion-over s small, id-route s small (byte s 5) known)
-      (length-first (outside 1024 (word 4 s 28)) (allZero (byte s 7) (word 8 s 16) (word 2 s 40) (word 8 s 40 % 2 ^ 24) && (leb (byte s 43) 1 && eqb (word 2 s 38) 0)) (completionOver (byte s 42) (word 4 s 32) (byte s 44)) _ ∙ ap (λ (b : Bool). not (outside 1024 (word 4 s 28)) && b) (after-three (allZero (byte s 7) (word 8 s 16) (word 2 s 40) (word 8 s 40 % 2 ^ 24)) (leb (byte s 43) 1) (eqb (word 2 s 38) 0) _))
+      (length-first (outside 1024 (word 4 s 28)) (allZero (byte s 7) (word 8 s 16) (word 2 s 40) (word 8 s 40 % 2 ^ 24) && (leb (byte s 43) 1 && eqb (word 2 s 38) 0)) (completionOver (byte s 42) (word 4 s 32) (byte s 44)) _ ∙ ap (λ (b : Bool). not (outside 1024 (word 4 s 28)) && b) (regrouped-three (allZero (byte s 7) (word 8 s 16) (word 2 s 40) (word 8 s 40 % 2 ^ 24)) (leb (byte s 43) 1) (eqb (word 2 s 38) 0) _))
 
   module _ (n : ℕ) (e : n ≡ byte s 0) (r : Bool) where
     pub memory-law : (n ≡ 0 → ⊥) → n ≤ 2 → r ≡ memoryFits s → r ≡ writable s

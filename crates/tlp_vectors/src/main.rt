@@ -19,6 +19,7 @@ use text::words::part;
 use text::words::value_at;
 use tlp::settings::Settings;
 use tlp_read::ReadAnswer;
+use tlp_record::places::RECORD_SIZE;
 ghost use Prim.Native.Nat.{_≤_, _<_, _^_};
 ghost use lib.ListN.{length};
 
@@ -108,7 +109,7 @@ fn run_read(line: &[u8]) {
     let mut space = [0u8; 10000];
     let digits = bytes_after(line, end.next, &mut space);
     let packet = part(&space, 0, digits.size);
-    let mut record = [0u8; 48];
+    let mut record = [0u8; RECORD_SIZE];
     let number = tlp_c::tollpebble_read(
         settings.mps,
         settings.mrrs,
