@@ -3,7 +3,7 @@ use byte_enables::Access;
 use reads::table::Table;
 use reads_rules::read::Read;
 use reads_rules::request::ReadRequest;
-use reads_slots::State;
+use reads_rules::state::State;
 use reads_slots::record::put_state;
 use tlp::settings::Settings;
 ghost use Prim.Native.Nat.{_≤_};

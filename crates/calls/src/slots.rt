@@ -10,7 +10,7 @@ use reads::table::Table;
 use reads::table::tag_limit;
 use reads_rules::origin::Origin;
 use reads_rules::read::Read;
-use reads_slots::State;
+use reads_rules::state::State;
 use reads_slots::record::put_state;
 use reads_slots::record::record_at;
 use text::fields::Field;

@@ -8,7 +8,7 @@ use reads::answer::WithdrawAnswer;
 use reads_answers::TakeAnswer;
 use reads_rules::read::Read;
 use reads_rules::request::ReadRequest;
-use reads_slots::State;
+use reads_rules::state::State;
 use text::decimal::put_decimal;
 use text::hex::put_hex;
 use text::hex::put_hex_fixed;

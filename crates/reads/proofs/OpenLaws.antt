@@ -20,10 +20,10 @@ use Rattle.tlp.specs.declared.packet.Packet.{Packet}
 use Rattle.reads_rules.specs.declared.request.ReadRequest.{ReadRequest}
 use Rattle.reads_rules.proofs.RequestLaws.{read-type}
 use Rattle.reads_rules.specs.declared.origin.Origin.{Origin}
-use Rattle.reads_slots.specs.declared.State.{State}
-use Rattle.reads_slots.specs.declared.State.the-variants.{Open}
+use Rattle.reads_rules.specs.declared.state.State.{State}
+use Rattle.reads_rules.specs.declared.state.State.the-variants.{Open}
 use Rattle.reads_slots.specs.Records.{openedWith, wordsWith}
-use Rattle.reads_slots.specs.Slots.{isOpen}
+use Rattle.reads_rules.specs.States.{isOpen}
 use Rattle.reads.specs.declared.table.Table.{Table}
 use Rattle.reads.specs.declared.answer.OpenAnswer.{OpenAnswer}
 use Rattle.reads.specs.declared.answer.OpenAnswer.the-variants.{Opened, Refused}

@@ -12,9 +12,9 @@ use Rattle.tlp.specs.declared.settings.Settings.{Settings}
 use Rattle.reads_rules.specs.declared.origin.Origin.{Origin}
 use Rattle.reads_rules.specs.declared.request.ReadRequest.{ReadRequest}
 use Rattle.reads_words.specs.Capacity.{capacity}
-use Rattle.reads_slots.specs.declared.State.{State}
-use Rattle.reads_slots.specs.declared.State.the-variants.{Free}
-use Rattle.reads_slots.specs.Slots.{isOpen}
+use Rattle.reads_rules.specs.declared.state.State.{State}
+use Rattle.reads_rules.specs.declared.state.State.the-variants.{Free}
+use Rattle.reads_rules.specs.States.{isOpen}
 use Rattle.reads_slots.specs.Records.{stateBelow, openedWith, wordsWith, validAt, sharesAt, owedAt}
 use Rattle.reads_words.proofs.SetLaws.{without-empty}
 use Rattle.reads_words.proofs.WordLaws.{clear-zeros}

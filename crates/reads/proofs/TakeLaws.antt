@@ -27,8 +27,8 @@ use Rattle.reads_rules.specs.declared.read.Read.{Read}
 use Rattle.reads_rules.specs.declared.piece.Piece.{Piece}
 use Rattle.reads_rules.specs.declared.origin.Origin.{Origin}
 use Rattle.reads_rules.specs.Pieces.{ofCompletions, isCompletion, pieceOf}
-use Rattle.reads_slots.specs.declared.State.{State}
-use Rattle.reads_slots.specs.declared.State.the-variants.{Open}
+use Rattle.reads_rules.specs.declared.state.State.{State}
+use Rattle.reads_rules.specs.declared.state.State.the-variants.{Open}
 use Rattle.reads.specs.declared.table.Table.{Table}
 use Rattle.reads_slots.specs.Records.{openedWith, wordsWith}
 use Rattle.reads.specs.declared.table.Taking.{Taking}

@@ -9,7 +9,7 @@ use Rattle.tlp.specs.declared.settings.Settings.{Settings}
 use Rattle.tlp.specs.Settings.{settingsListed}
 use Rattle.reads_rules.specs.declared.origin.Origin.{Origin}
 use Rattle.reads_rules.specs.declared.request.ReadRequest.{ReadRequest}
-use Rattle.reads_slots.specs.declared.State.{State}
+use Rattle.reads_rules.specs.declared.state.State.{State}
 use Rattle.reads_slots.specs.Slots.{validState, sharesIn, owedIn}
 use Rattle.reads_words.specs.Capacity.{capacity}
 use Rattle.reads_slots.specs.Records.{stateBelow, openedWith, wordsWith}

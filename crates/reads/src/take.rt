@@ -11,7 +11,7 @@ use reads_rules::origin::Origin;
 use reads_rules::piece::Piece;
 use reads_rules::piece::piece_of;
 use reads_rules::read::Read;
-use reads_slots::State;
+use reads_rules::state::State;
 use reads_slots::record::put_state;
 use reads_store::store_piece;
 use reads_words::tag_set::TagSet;

@@ -17,9 +17,9 @@ use Rattle.reads_rules.specs.Windows.{holdsWindow}
 use Rattle.reads_rules.specs.Pieces.{isCompletion, pieceOf}
 use Rattle.reads_rules.specs.Continuations.{cutAllowed, legal, succeeds, statusBad, differs, reported}
 use Rattle.reads_rules.specs.Validity.{owedOf}
-use Rattle.reads_slots.specs.declared.State.{State}
-use Rattle.reads_slots.specs.declared.State.the-variants.{Open}
-use Rattle.reads_slots.specs.Slots.{isOpen}
+use Rattle.reads_rules.specs.declared.state.State.{State}
+use Rattle.reads_rules.specs.declared.state.State.the-variants.{Open}
+use Rattle.reads_rules.specs.States.{isOpen}
 use Rattle.reads_answers.specs.declared.TakeAnswer.{TakeAnswer}
 use Rattle.reads_answers.specs.declared.TakeAnswer.the-variants.{More, Done, Failed, Poisoned, Refused}
 use Rattle.reads_answers.specs.Takes.{readIn, pieceRows, ownRows, outcome, numberOr, pieceAnswer, packetAnswer}

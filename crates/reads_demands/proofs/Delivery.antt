@@ -22,8 +22,8 @@ use Rattle.reads_rules.specs.Validity.{owedOf}
 use Rattle.reads_rules.specs.Continuations.{legal}
 use Rattle.reads_rules.specs.Pieces.{pieceIn}
 use Rattle.reads_store.specs.Stores.{stored}
-use Rattle.reads_slots.specs.declared.State.{State}
-use Rattle.reads_slots.specs.declared.State.the-variants.{Free, Open}
+use Rattle.reads_rules.specs.declared.state.State.{State}
+use Rattle.reads_rules.specs.declared.state.State.the-variants.{Free, Open}
 use Rattle.reads.specs.declared.table.Table.{Table}
 use Rattle.reads.specs.declared.answer.OpenAnswer.{OpenAnswer}
 use Rattle.reads.specs.declared.answer.OpenAnswer.the-variants.{Opened, Refused as OpenRefused}

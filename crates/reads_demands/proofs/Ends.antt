@@ -15,9 +15,9 @@ use Rattle.reads_rules.specs.declared.read.Read.{Read}
 use Rattle.reads_rules.specs.declared.origin.Origin.{Origin}
 use Rattle.reads_rules.specs.Validity.{owedOf}
 use Rattle.reads_rules.specs.Pieces.{pieceIn}
-use Rattle.reads_slots.specs.declared.State.{State}
-use Rattle.reads_slots.specs.declared.State.the-variants.{Free, Open}
-use Rattle.reads_slots.specs.Slots.{isOpen}
+use Rattle.reads_rules.specs.declared.state.State.{State}
+use Rattle.reads_rules.specs.declared.state.State.the-variants.{Free, Open}
+use Rattle.reads_rules.specs.States.{isOpen}
 use Rattle.reads.specs.declared.table.Table.{Table}
 use Rattle.reads_answers.specs.declared.TakeAnswer.the-variants.{Done}
 use Rattle.reads.specs.Tables.{newTable, stateAt}

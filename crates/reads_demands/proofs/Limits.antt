@@ -9,8 +9,8 @@ use lib.ListN.{length, length-replicate}
 use borrow.Author.Tests.{ltb-true, ltb-false, eqb-true, eqb-false}
 use Rattle.bits.specs.Choice.{pick}
 use Rattle.reads_rules.specs.declared.origin.Origin.{Origin}
-use Rattle.reads_slots.specs.declared.State.{State}
-use Rattle.reads_slots.specs.declared.State.the-variants.{Free}
+use Rattle.reads_rules.specs.declared.state.State.{State}
+use Rattle.reads_rules.specs.declared.state.State.the-variants.{Free}
 use Rattle.reads_words.specs.Capacity.{capacity}
 use Rattle.reads_slots.specs.Inner.Fits.{FitsIn}
 use Rattle.reads_slots.proofs.RecordLaws.{length-opened, length-words, record-empty, record-same, below-in, below-over, below-free, below-fits, below-other}

@@ -8,8 +8,8 @@ use lib.Dec.{eqb, ltb}
 use borrow.Author.Tests.{eqb-true, eqb-false, ne-eqb, ltb-true, ltb-false}
 use Rattle.bits.specs.Choice.{pick}
 use Rattle.reads_rules.specs.declared.origin.Origin.{Origin}
-use Rattle.reads_slots.specs.declared.State.{State}
-use Rattle.reads_slots.specs.declared.State.the-variants.{Free}
+use Rattle.reads_rules.specs.declared.state.State.{State}
+use Rattle.reads_rules.specs.declared.state.State.the-variants.{Free}
 use Rattle.reads_slots.specs.Inner.Fits.{FitsIn}
 use Rattle.reads.specs.declared.table.Table.{Table}
 use Rattle.reads.specs.Tables.{tagLimit, newTable, stateAt, withState}

@@ -20,9 +20,9 @@ use Rattle.reads_rules.specs.Windows.{holdsWindow}
 use Rattle.reads_rules.specs.Validity.{owedOf}
 use Rattle.reads_rules.specs.Pieces.{pieceOf, pieceIn}
 use Rattle.reads_rules.specs.Continuations.{succeeds, statusBad, legal, reported}
-use Rattle.reads_slots.specs.declared.State.{State}
-use Rattle.reads_slots.specs.declared.State.the-variants.{Free, Open}
-use Rattle.reads_slots.specs.Slots.{isOpen}
+use Rattle.reads_rules.specs.declared.state.State.{State}
+use Rattle.reads_rules.specs.declared.state.State.the-variants.{Free, Open}
+use Rattle.reads_rules.specs.States.{isOpen}
 use Rattle.reads.specs.declared.table.Table.{Table}
 use Rattle.reads.specs.declared.table.Taking.{Taking}
 use Rattle.reads_answers.specs.declared.TakeAnswer.{TakeAnswer}

@@ -18,8 +18,8 @@ use Rattle.reads_rules.specs.Requests.{requestRows}
 use Rattle.reads_rules.specs.Windows.{storeLimit, windowEnd, placeRows, sharesByte}
 use Rattle.reads_rules.specs.Validity.{validRead}
 use Rattle.reads_rules.specs.Pieces.{pieceIn}
-use Rattle.reads_slots.specs.declared.State.{State}
-use Rattle.reads_slots.specs.declared.State.the-variants.{Free, Open}
+use Rattle.reads_rules.specs.declared.state.State.{State}
+use Rattle.reads_rules.specs.declared.state.State.the-variants.{Free, Open}
 use Rattle.reads_slots.specs.Slots.{validState, sharesIn}
 use Rattle.reads_slots.specs.Inner.Fits.{FitsIn}
 use Rattle.reads_slots.proofs.RecordLaws.{free-fits, open-fits}

@@ -11,7 +11,7 @@ use Rattle.reads_rules.specs.Validity.{owedOf}
 use Rattle.reads_rules.specs.Windows.{holdsWindow}
 use Rattle.reads_rules.specs.Continuations.{legal}
 use Rattle.reads_rules.specs.Pieces.{pieceIn}
-use Rattle.reads_slots.specs.declared.State.the-variants.{Open}
+use Rattle.reads_rules.specs.declared.state.State.the-variants.{Open}
 use Rattle.reads.specs.declared.table.Table.{Table}
 use Rattle.reads_answers.specs.declared.TakeAnswer.the-variants.{More, Done}
 use Rattle.reads.specs.Tables.{stateAt, validTable}

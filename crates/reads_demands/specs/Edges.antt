@@ -25,7 +25,7 @@ use Rattle.reads_rules.specs.declared.origin.Origin.{Origin}
 use Rattle.reads_rules.specs.Requests.{requestPacket, requestRows}
 use Rattle.reads_rules.specs.Continuations.{byteCountAt, lowerAddressAt}
 use Rattle.reads_store.specs.Stores.{stored}
-use Rattle.reads_slots.specs.declared.State.the-variants.{Open}
+use Rattle.reads_rules.specs.declared.state.State.the-variants.{Open}
 use Rattle.reads_answers.specs.Takes.{pieceRows}
 use Rattle.cuttings.specs.Rows.{cuttings}
 

@@ -10,8 +10,8 @@ use borrow.Author.Tests.{lt-ltb, le-ltb}
 use Rattle.bits.specs.Choice.{pick}
 use Rattle.reads_rules.specs.declared.request.ReadRequest.{ReadRequest}
 use Rattle.reads_rules.specs.declared.read.Read.{Read}
-use Rattle.reads_slots.specs.declared.State.{State}
-use Rattle.reads_slots.specs.declared.State.the-variants.{Free, Open}
+use Rattle.reads_rules.specs.declared.state.State.{State}
+use Rattle.reads_rules.specs.declared.state.State.the-variants.{Free, Open}
 use Rattle.reads_words.specs.Capacity.{capacity}
 use Rattle.reads_words.specs.TagSets.{withBit, withoutBit, contains}
 use Rattle.reads_words.proofs.SetLaws.{empty-in, length-changed, in-with, in-without, in-with-other, in-without-other}

@@ -7,8 +7,8 @@ use borrow.Author.Tests.{not-true, not-false}
 use Rattle.reads_rules.specs.declared.read.Read.{Read}
 use Rattle.reads_words.specs.TagSets.{contains}
 use Rattle.reads_words.specs.Words.{readAt}
-use Rattle.reads_slots.specs.declared.State.{State}
-use Rattle.reads_slots.specs.declared.State.the-variants.{Free, Open}
+use Rattle.reads_rules.specs.declared.state.State.{State}
+use Rattle.reads_rules.specs.declared.state.State.the-variants.{Free, Open}
 use Rattle.reads_slots.specs.Records.{recordAt, stateBelow, openedWith, wordsWith}
 use Rattle.reads_slots.proofs.RecordLaws.{below-in, below-over}
 

@@ -24,8 +24,8 @@ use Rattle.reads_words.specs.Words.{readAt}
 use Rattle.reads_words.proofs.SetLaws.{contains-over}
 use Rattle.reads_words.proofs.LowestLaws.{lowest-below, lowest-in, lowest-out, lowest-other, lowest-less, word-in, word-over}
 use Rattle.reads_words.proofs.WordLaws.{at-fits}
-use Rattle.reads_slots.specs.declared.State.{State}
-use Rattle.reads_slots.specs.declared.State.the-variants.{Free, Open}
+use Rattle.reads_rules.specs.declared.state.State.{State}
+use Rattle.reads_rules.specs.declared.state.State.the-variants.{Free, Open}
 use Rattle.reads_slots.specs.Slots.{validState, sharesIn, owedIn}
 use Rattle.reads_slots.specs.Records.{recordAt, stateBelow, validAt, sharesAt, owedAt}
 use Rattle.reads_slots.specs.Inner.WordScans.{recordIn, validIn, sharesInWord, owedInWord}

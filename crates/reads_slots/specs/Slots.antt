@@ -1,18 +1,12 @@
--- Document 01: "A tag's record is whether it is open and, if so, p and what open got", and what 11, 24 and owed ask
--- of one. A reader must believe all of it.
+-- What 11, 24 and owed ask of a tag's record. A reader must believe all of it.
 use Prim.Native.Nat.{ℕ}
 use mathlib.Core.Bool.{Bool, true, false}
 use Rattle.tlp.specs.declared.settings.Settings.{Settings}
 use Rattle.reads_rules.specs.declared.request.ReadRequest.{ReadRequest}
 use Rattle.reads_rules.specs.Windows.{sharesByte}
 use Rattle.reads_rules.specs.Validity.{validRead, owedOf}
-use Rattle.reads_slots.specs.declared.State.{State}
-use Rattle.reads_slots.specs.declared.State.the-variants.{Free, Open}
-
--- whether a record holds a read
-abbrev pub isOpen : State → Bool
-isOpen Free = false
-isOpen (Open r) = true
+use Rattle.reads_rules.specs.declared.state.State.{State}
+use Rattle.reads_rules.specs.declared.state.State.the-variants.{Free, Open}
 
 -- closed records are not looked at
 abbrev pub validState : Settings → State → Bool

@@ -1,5 +1,5 @@
 // One tag's record. What is only looked at is lent: what is given by value is copied.
-use crate::State;
+use reads_rules::state::State;
 use reads_words::tag_set::TagSet;
 use reads_words::tag_set::contains;
 use reads_words::tag_set::with_tag;

@@ -17,9 +17,9 @@ use Rattle.reads_rules.specs.Requests.{requestRows}
 use Rattle.reads_rules.specs.Windows.{placeRows}
 use Rattle.reads_rules.specs.declared.piece.Piece.{Piece}
 use Rattle.reads_rules.specs.Pieces.{pieceOf}
-use Rattle.reads_slots.specs.declared.State.{State}
-use Rattle.reads_slots.specs.declared.State.the-variants.{Free}
-use Rattle.reads_slots.specs.Slots.{isOpen}
+use Rattle.reads_rules.specs.declared.state.State.{State}
+use Rattle.reads_rules.specs.declared.state.State.the-variants.{Free}
+use Rattle.reads_rules.specs.States.{isOpen}
 use Rattle.reads_answers.specs.declared.TakeAnswer.{TakeAnswer}
 use Rattle.reads_answers.specs.declared.TakeAnswer.the-variants.{More, Done, Failed, Poisoned, Unread, Refused}
 use Rattle.reads_answers.specs.Takes.{readIn, pieceAnswer}

@@ -2,8 +2,8 @@
 use mathlib.Core.Path.{_≡_}
 use Rattle.reads_rules.specs.declared.read.Read.{Read}
 use Rattle.reads_words.specs.Inner.Fits.{Fits}
-use Rattle.reads_slots.specs.declared.State.{State}
-use Rattle.reads_slots.specs.declared.State.the-variants.{Open}
+use Rattle.reads_rules.specs.declared.state.State.{State}
+use Rattle.reads_rules.specs.declared.state.State.the-variants.{Open}
 
 -- the read of an open record has fields that fit their types; a free one has none
 abbrev pub FitsIn : State → Type 0
