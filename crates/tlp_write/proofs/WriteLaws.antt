@@ -1,5 +1,5 @@
 -- Laws of writing, in the words of its returns.
-use Prim.Native.Nat.{ℕ, zero, suc, _+_, _*_, _≤_, _<_}
+use Prim.Native.Nat.{ℕ, zero, suc, _+_, _*_, _^_, _≤_, _<_}
 use mathlib.Core.Path.{_≡_, refl, sym, ap, _∙_}
 use mathlib.Core.Bool.{Bool, true, false, not}
 use mathlib.Core.List.{List, [], _∷_, _++_, append-assoc}
@@ -32,7 +32,7 @@ use Rattle.tlp_write.specs.declared.head.Head.{Head}
 use Rattle.tlp_write.specs.Layout.{routingIn, ownBytes, frontBytes, headerOf, digestOf, bytesOf, sizeOf}
 use Rattle.tlp_write.specs.Write.{fieldRows, laterRows, writeAnswer, writePacket, writeOut}
 use Rattle.tlp_write.specs.Inner.Padded.{padded}
-use Rattle.tlp_write.specs.Inner.Head.{wordBytes, headFront, headSize, headBytes, headDigest, dataSize, mostData, wholeSize, listedFault, judgedRows, judgedAnswer, judgedOut, headAnswer, headOut, IsHead}
+use Rattle.tlp_write.specs.Inner.Head.{wordBytes, headFront, headSize, headBytes, headDigest, dataSize, wholeSize, listedFault, judgedRows, judgedAnswer, judgedOut, headAnswer, headOut, IsHead}
 use Rattle.tlp_write.specs.Inner.Lay.{layAnswer, layOut}
 use Rattle.tlp_write.proofs.LayoutLaws.{routing-low, header-length, header-front, three-or-four}
 
@@ -41,7 +41,7 @@ use Rattle.tlp_write.proofs.LayoutLaws.{routing-low, header-length, hea
 pub wide-law : (t : PacketType) (n : ℕ) → n ≡ headerDw t → eqb n 4 ≡ eqb (headerDw t) 4
 wide-law t n e = rw e
 
-pub held-le : (t : PacketType) (d n : ℕ) → d ≡ dataBytes t n → Fits w32 n → d ≤ mostData
+pub held-le : (t : PacketType) (d n : ℕ) → d ≡ dataBytes t n → Fits w32 n → d < 2 ^ 34
 held-le t d n e h = omega (arith, e, data-le t n, h .fits)
 
 pub whole-law : (h : Head) (d n : ℕ) → d ≡ dataSize h → n ≡ pick (eqb (headerDw (h .«packet_type»)) 4) 16 12 + d + digestBytes (h .«has_digest») → n ≡ wholeSize h

@@ -17,7 +17,7 @@ use tlp::size::digest_bytes;
 use tlp_writable::given_number;
 ghost use mathlib.Core.Path.{_≡_};
 ghost use mathlib.Core.List.{_++_};
-ghost use Prim.Native.Nat.{_+_, _≤_};
+ghost use Prim.Native.Nat.{_+_, _^_, _≤_, _<_};
 ghost use lib.Dec.{eqb};
 ghost use lib.ListN.{length};
 ghost use Rattle.bits.specs.Choice.{pick};
@@ -26,7 +26,7 @@ ghost use Rattle.tlp.specs.Rows.{first};
 ghost use Rattle.tlp.specs.PacketTypes.{headerDw};
 ghost use Rattle.tlp.specs.Sizes.{digestBytes};
 ghost use Rattle.tlp_write.specs.Write.{fieldRows, writePacket, writeOut};
-ghost use Rattle.tlp_write.specs.Inner.Head.{headBytes, headDigest, mostData, dataSize, wholeSize, judgedRows, judgedAnswer, judgedOut, headAnswer, headOut};
+ghost use Rattle.tlp_write.specs.Inner.Head.{headBytes, headDigest, dataSize, wholeSize, judgedRows, judgedAnswer, judgedOut, headAnswer, headOut};
 ghost use Rattle.tlp_write.specs.Inner.Lay.{layAnswer, layOut};
 
 pub enum WriteAnswer {
@@ -49,9 +49,9 @@ fn head_size(t: PacketType) -> usize
     12
 }
 
-// Header, data of held bytes and digest. A length of 32 bits calls for no more data.
+// Header, data of held bytes and digest. A length of 32 bits calls for no more data than that.
 fn whole_size(t: PacketType, held: usize, digest: bool) -> usize
-    requires { ⌜ held ≤ mostData ⌝ }
+    requires { ⌜ held < 2 ^ 34 ⌝ }
     ensures { λ r. ⌜ r ≡ pick (eqb (headerDw t) 4) 16 12 + held + digestBytes digest ⌝ }
 {
     head_size(t) + held + digest_bytes(digest)

@@ -46,10 +46,6 @@ headBytes h = take (headSize h) (headFront h ++ wordBytes (h .words))
 abbrev pub headDigest : Head → List ℕ
 headDigest h = pick (h .«has_digest») (bytes 4 (h .digest)) []
 
--- the most data that a length of 32 bits calls for
-abbrev pub mostData : ℕ
-mostData = 17179869180
-
 abbrev pub dataSize : Head → ℕ
 dataSize h = dataBytes (h .«packet_type») (h .length)
 
