@@ -26,6 +26,7 @@ ruleset no = (left-no, right-no)
 
 pub record RequestFits (q : Request) : Type 0 where
   pub requester : q .requester < 2 ^ 16
+  pub tag : q .tag < 2 ^ 8
   pub length : lengthBad (q .length) ≡ false
   pub first : q .first < 2 ^ 4
   pub last : q .last < 2 ^ 4
@@ -35,6 +36,7 @@ unfolding requestBad
 request-fits q e =
     record {
       requester = fits 16 (q .requester) (search no);
+      tag = fits 8 (q .tag) (search no);
       length = search no;
       first = fits 4 (q .first) (search no);
       last = fits 4 (q .last) (search no);
@@ -56,16 +58,25 @@ config-fits q e =
 
 pub record MessageFits (m : MessageRequest) : Type 0 where
   pub requester : m .requester < 2 ^ 16
+  pub tag : m .tag < 2 ^ 8
+  pub code : m .code < 2 ^ 8
   pub body : m .body < 2 ^ 64
 
 pub message-fits : (m : MessageRequest) → messageBad m ≡ false → MessageFits m
 unfolding messageBad
-message-fits m e = record { requester = fits 16 (m .requester) (search no); body = fits 64 (m .body) (search no) }
+message-fits m e =
+    record {
+      requester = fits 16 (m .requester) (search no);
+      tag = fits 8 (m .tag) (search no);
+      code = fits 8 (m .code) (search no);
+      body = fits 64 (m .body) (search no);
+    }
 
 pub record CompletionFits (c : CompletionHeader) : Type 0 where
   pub completer : c .completer < 2 ^ 16
   pub status : c .status < 2 ^ 3
   pub «byte_count» : (1 ≤ c .«byte_count») × (c .«byte_count» ≤ 4096)
+  pub tag : c .tag < 2 ^ 8
   pub «lower_address» : c .«lower_address» < 2 ^ 7
 
 pub completion-fits : (c : CompletionHeader) → completionBad c ≡ false → CompletionFits c
@@ -75,6 +86,7 @@ completion-fits c e =
       completer = fits 16 (c .completer) (search no);
       status = fits 3 (c .status) (search no);
       «byte_count» = inside 4096 (c .«byte_count») (search no);
+      tag = fits 8 (c .tag) (search no);
       «lower_address» = fits 7 (c .«lower_address») (search no);
     }
 

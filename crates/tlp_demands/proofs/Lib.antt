@@ -13,4 +13,8 @@ pub mod ReadGiven
 pub mod ReadWrite
 pub mod ReservedFields
 pub mod ReservedIgnored
-pub mod RecordOfRead
+pub mod WrittenBytes
+pub mod Demand1
+pub mod RoundTrips
+pub mod Records
+pub mod ExportedCalls

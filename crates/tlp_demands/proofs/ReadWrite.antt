@@ -1,4 +1,4 @@
--- Reading then writing gives the same bytes with reserved bits cleared.
+-- A packet that was read is written as its bytes with reserved bits cleared.
 use Prim.Native.Nat.{ℕ, _+_, _-_, _*_, _≤_}
 use mathlib.Core.Path.{_≡_, refl, sym, _∙_}
 use mathlib.Core.Bool.{Bool, true, false, _||_, _&&_, not}
@@ -20,15 +20,16 @@ use Rattle.tlp.specs.Sizes.{lengthAt, digestAt, dataBytes, digestBytes, bytesCa
 use Rattle.tlp.specs.Contents.{contentRows, plainBad, notPlain}
 use Rattle.tlp.specs.Reserved.{masks, clearReserved}
 use Rattle.tlp.specs.declared.settings.Settings.{Settings}
+use Rattle.tlp.specs.declared.packet.Packet.{Packet}
 use Rattle.tlp.specs.declared.packet_type.PacketType.{PacketType}
 use Rattle.tlp.specs.declared.packet_type.Family.{Family}
 use Rattle.tlp_read.specs.Fields.{packetAt, digestWord}
-use Rattle.tlp_read.specs.Read.{payloadOf}
+use Rattle.tlp_read.specs.Read.{readPacket, payloadOf}
+use Rattle.tlp_read.specs.declared.ReadAnswer.the-variants.{Accepted}
 use Rattle.tlp_write.specs.Layout.{digestOf, bytesOf, sizeOf}
 use Rattle.tlp_write.specs.Write.{writeRows, writePacket}
 use Rattle.tlp_writable.specs.Given.{givenRows}
 use Rattle.tlp_write.specs.declared.WriteAnswer.the-variants.{Written}
-use Rattle.tlp_demands.specs.RoundTrips.{ReadThenWrite}
 use Rattle.tlp.proofs.RowLaws.{none-first, none-join}
 use Rattle.tlp_demands.proofs.ReadRows.{Sound, accepted}
 use Rattle.tlp_demands.proofs.ReadMasks.{masked-under}
@@ -106,7 +107,8 @@ module _ (c : Settings) (s : List ℕ) (small : Bytes s) (t : PacketType) (o : S
   unfolding writePacket
   same-answer room h = rw (none-first (writeRows c (packetAt t s) (length (payloadOf (packetAt t s) s)) room) (write-none room h), size-is)
 
-pub read-then-write : ReadThenWrite
-read-then-write c s p room small e h =
+pub read-written : (c : Settings) (s : List ℕ) (p : Packet) (room : ℕ) → Bytes s → readPacket c s ≡ Accepted p → length s ≤ room
+    → (writePacket c p (length (payloadOf p s)) room ≡ Written (length s)) × (bytesOf p (payloadOf p s) ≡ clearReserved s)
+read-written c s p room small e h =
     let a = accepted c s p e in
     rw (← a .1) (same-answer c s small (typeAt (byte s 0)) (a .0) room h, same-bytes c s small (typeAt (byte s 0)) (a .0))

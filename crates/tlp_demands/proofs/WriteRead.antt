@@ -1,4 +1,4 @@
--- Writing then reading gives the same packet: the theorem `WriteThenRead`.
+-- The bytes that a packet is written as are read back as the packet.
 use Prim.Native.Nat.{ℕ, zero, suc, _-_, _*_, _^_, _<_, _≤_}
 use mathlib.Core.Path.{_≡_, refl, sym, ap, _∙_}
 use mathlib.Core.Bool.{Bool, true, false, _&&_, not, and-false}
@@ -26,7 +26,6 @@ use Rattle.tlp_write.specs.Layout.{frontBytes, ownBytes, headerOf, digestOf, by
 use Rattle.tlp_writable.specs.Given.{commonBad, ownBad, reservedGiven, routeBad}
 use Rattle.tlp_write.specs.Write.{writeRows, writeAnswer, writePacket}
 use Rattle.tlp_write.specs.declared.WriteAnswer.the-variants.{Written}
-use Rattle.tlp_demands.specs.RoundTrips.{WriteThenRead}
 use Rattle.tlp.proofs.RowLaws.{none-first, first-none}
 use Rattle.tlp_demands.proofs.Fits.{common-fits}
 use Rattle.tlp_demands.proofs.Front.{FrontBack, front-back}
@@ -135,11 +134,18 @@ write-zero : (n size size′ : ℕ) → writeAnswer n size ≡ Written size′ �
 write-zero zero size size′ e = (refl, cc)
 write-zero (suc n) size size′ e = (cc, cc)
 
-pub write-then-read : WriteThenRead
-unfolding writePacket readPacket
-write-then-read c p payload room size e =
-    let z = write-zero (first (writeRows c p (length payload) room)) (sizeOf p) size e in
-    let (s, (b, (k, (g, (r, (l, (r5, (r6, (r7, (r8, _)))))))))) = first-none (writeRows c p (length payload) room) refl (z .0) in
+pub written-none : (c : Settings) (p : Packet) (n room size : ℕ) → writePacket c p n room ≡ Written size → NoneHold (writeRows c p n room) × (sizeOf p ≡ size)
+unfolding writePacket
+written-none c p n room size e =
+    let z = write-zero (first (writeRows c p n room)) (sizeOf p) size e in
+    (first-none (writeRows c p n room) refl (z .0), z .1)
+
+pub bytes-read : (c : Settings) (p : Packet) (payload : List ℕ) (room size : ℕ) → writePacket c p (length payload) room ≡ Written size
+    → (readPacket c (bytesOf p payload) ≡ Accepted p) × ((payloadOf p (bytesOf p payload) ≡ payload) × (size ≡ length (bytesOf p payload)))
+unfolding readPacket
+bytes-read c p payload room size e =
+    let z = written-none c p (length payload) room size e in
+    let (s, (b, (k, (g, (r, (l, (r5, (r6, (r7, (r8, _)))))))))) = z .0 in
     let f : Fit p payload = record { common = b; own = k; reserved = g; route = r; lent = eqb-true _ _ (not-false _ l) } in
     let none = none-first (readRows c (bytesOf p payload)) (read-rows p payload f c s (r5, (r6, (r7, (r8, tt))))) in
     let same : packetAt (typeAt (byte (bytesOf p payload) 0)) (bytesOf p payload) ≡ p = rw (own p payload f .type) (packet p payload f) in

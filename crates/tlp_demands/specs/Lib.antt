@@ -1,2 +1,4 @@
+pub mod Demand1
 pub mod RoundTrips
-pub mod RecordOfRead
+pub mod Records
+pub mod ExportedCalls

@@ -1,41 +1,52 @@
 -- Demand 2: "Writing then reading gives the same packet; reading then writing gives the same bytes with reserved bits
--- cleared." Document 01: "Reserved bits are ignored on reading". Proved in proofs/WriteRead.antt, proofs/ReadWrite.antt
--- and proofs/ReservedIgnored.antt. A reader must believe the three statements.
+-- cleared." Document 01: "Reserved bits are ignored on reading and zero on writing." All over the output that a caller
+-- holds. A reader must believe the four statements; they are proved in proofs/RoundTrips.antt and
+-- proofs/ReservedIgnored.antt.
 use Prim.Native.Nat.{ℕ, _≤_}
 use mathlib.Core.Path.{_≡_}
 use mathlib.Core.List.{List}
-use lib.ListN.{length}
+use lib.ListN.{length, take}
+use Rattle.bits.specs.Put.{overFront}
 use Rattle.bits.specs.Word.{Bytes}
 use Rattle.tlp.specs.Reserved.{clearReserved}
 use Rattle.tlp.specs.declared.settings.Settings.{Settings}
 use Rattle.tlp.specs.declared.packet.Packet.{Packet}
 use Rattle.tlp_read.specs.Read.{readPacket, payloadOf}
 use Rattle.tlp_read.specs.declared.ReadAnswer.the-variants.{Accepted}
-use Rattle.tlp_write.specs.Layout.{bytesOf}
-use Rattle.tlp_write.specs.Write.{writePacket}
+use Rattle.tlp_write.specs.Write.{writePacket, writeOut}
 use Rattle.tlp_write.specs.declared.WriteAnswer.the-variants.{Written}
 
--- Whatever the writer accepts: reading its bytes with the same settings gives the same packet and payload, and the size
--- written is theirs.
+-- Where writing into an output is accepted, reading as many of its bytes as were written, with the same settings, gives
+-- the same packet, and its payload is the one that was lent.
 abbrev pub WriteThenRead : Type 0
 WriteThenRead =
-    (settings : Settings) (p : Packet) (payload : List ℕ) (room size : ℕ)
-    → writePacket settings p (length payload) room ≡ Written size
-    → (readPacket settings (bytesOf p payload) ≡ Accepted p)
-    × ((payloadOf p (bytesOf p payload) ≡ payload)
-    × (size ≡ length (bytesOf p payload)))
+    (settings : Settings) (p : Packet) (payload out : List ℕ) (size : ℕ)
+    → writePacket settings p (length payload) (length out) ≡ Written size
+    → (readPacket settings (take size (writeOut settings p payload out)) ≡ Accepted p)
+    × (payloadOf p (take size (writeOut settings p payload out)) ≡ payload)
 
--- Whatever the reader accepts: writing it with the same settings is accepted where the output has room, and gives the
--- bytes with reserved bits cleared.
+-- Where bytes are read, writing that packet with the payload in them into any output with room, with the same settings,
+-- is accepted: the output is then the bytes with reserved bits cleared, and the rest of it as it was.
 abbrev pub ReadThenWrite : Type 0
 ReadThenWrite =
-    (settings : Settings) (packet : List ℕ) (p : Packet) (room : ℕ)
+    (settings : Settings) (packet : List ℕ) (p : Packet) (out : List ℕ)
     → Bytes packet
     → readPacket settings packet ≡ Accepted p
-    → length packet ≤ room
-    → (writePacket settings p (length (payloadOf p packet)) room ≡ Written (length packet))
-    × (bytesOf p (payloadOf p packet) ≡ clearReserved packet)
+    → length packet ≤ length out
+    → (writePacket settings p (length (payloadOf p packet)) (length out) ≡ Written (length packet))
+    × (writeOut settings p (payloadOf p packet) out ≡ overFront (clearReserved packet) out)
+
+-- Whatever is written has its reserved bits zero, whether it was read before or not.
+abbrev pub ReservedZero : Type 0
+ReservedZero =
+    (settings : Settings) (p : Packet) (payload out : List ℕ) (size : ℕ)
+    → Bytes payload
+    → writePacket settings p (length payload) (length out) ≡ Written size
+    → clearReserved (take size (writeOut settings p payload out)) ≡ take size (writeOut settings p payload out)
 
 -- Bytes with their reserved bits cleared read as the bytes themselves do, accepted or refused.
 abbrev pub ReservedIgnored : Type 0
-ReservedIgnored = (settings : Settings) (packet : List ℕ) → Bytes packet → readPacket settings (clearReserved packet) ≡ readPacket settings packet
+ReservedIgnored =
+    (settings : Settings) (packet : List ℕ)
+    → Bytes packet
+    → readPacket settings (clearReserved packet) ≡ readPacket settings packet

@@ -1,4 +1,4 @@
--- The packet back from the record that reading hands out: specs/RecordOfRead.antt.
+-- The packet back from its record: the theorems `RecordOfWritable` and `RecordOfRead`.
 use Prim.Native.Nat.{ℕ, _^_, _≤_, _<_}
 use mathlib.Core.Path.{_≡_, refl, ap, ap₂}
 use mathlib.Core.Bool.{true, false, true≢false}
@@ -18,12 +18,11 @@ use Rattle.tlp.specs.declared.packet.CompletionHeader.{CompletionHeader}
 use Rattle.tlp.specs.declared.packet.Kind.{Kind}
 use Rattle.tlp.specs.declared.packet.Kind.the-variants.{MemoryRead, MemoryWrite, IoRead, IoWrite, ConfigRead0, ConfigWrite0, ConfigRead1, ConfigWrite1, Message, MessageData, Completion, CompletionData}
 use Rattle.tlp.specs.declared.packet.Packet.{Packet}
-use Rattle.tlp_writable.specs.Given.{lengthBad, requestBad, configBad, messageBad, completionBad, ownBad, addressRouteBad, idRouteBad, messageRouteBad, routeBad, givenRows}
-use Rattle.tlp.specs.Rows.{NoneHold}
+use Rattle.tlp_writable.specs.Given.{lengthBad, requestBad, configBad, messageBad, completionBad, ownBad, addressRouteBad, idRouteBad, messageRouteBad, routeBad}
 use Rattle.tlp_record.specs.declared.KindFields.{KindFields}
 use Rattle.tlp_record.specs.Record.{requestFields, configFields, messageFields, completionFields, fieldsOf, recordWith, recordOf, requestIn, configIn, messageIn, completionIn, kindIn, routeIn, recordPacket, isRecord}
 use Rattle.bits.proofs.SameLaws.{same-self}
-use Rattle.tlp_demands.specs.RecordOfRead.{RecordOfRead}
+use Rattle.tlp_demands.specs.Records.{RecordOfWritable, RecordOfRead}
 use Rattle.tlp_demands.proofs.Tests.{left-no, right-no}
 use Rattle.tlp_demands.proofs.Fits.{fits, inside, request-fits, config-fits, message-fits, completion-fits, common-fits}
 use Rattle.tlp_demands.proofs.Front.{flag-back}
@@ -141,10 +140,6 @@ packet-back p v r d = λ i. record {
   kind = kind-back p (p .kind) v i;
 }
 
-back-record : (p : Packet) → recordPacket (recordOf p) ≡ p → isRecord (recordOf p) ≡ true
-unfolding isRecord
-back-record p e = rw e (same-self (recordOf p))
-
 -- ---- what the writer's tests let through fits
 
 request-fit : (n : ℕ) (q : Request) → requestBad q ≡ false → OwnFit (requestFields n q)
@@ -219,12 +214,13 @@ route-fit r (MessageData m n) o e = message-route-fit m r (right-no (lengthBad n
 route-fit r (Completion c) o e = id-fit r e
 route-fit r (CompletionData c n) o e = id-fit r e
 
-given-back : (p : Packet) → NoneHold (givenRows p) → recordPacket (recordOf p) ≡ p
-given-back p (common, (own, (reserved, (route, _)))) =
-    packet-back p (own-fit (p .kind) own) (route-fit (p .route) (p .kind) own route) (common-fits p common .digest)
+pub record-of-writable : RecordOfWritable
+unfolding isRecord
+record-of-writable p (common, (own, (reserved, (route, _)))) =
+    let e = packet-back p (own-fit (p .kind) own) (route-fit (p .route) (p .kind) own route) (common-fits p common .digest) in
+    record { packet = e; is-record = rw e (same-self (recordOf p)) }
 
 pub record-of-read : RecordOfRead
 record-of-read c s p small e =
     let a = accepted c s p e in
-    let b = given-back p (rw (a .1) at (given-none s small (typeAt (byte s 0)) (a .0))) in
-    (b, back-record p b)
+    record-of-writable p (rw (a .1) at (given-none s small (typeAt (byte s 0)) (a .0)))
