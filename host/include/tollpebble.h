@@ -12,12 +12,16 @@
  * host/build makes the library, target/staticlib/libtlp_c.a, for x86-64 Linux. Link it after your
  * own files; it needs nothing but the C library. host/example.c is a whole program.
  *
- * What is proved of both functions, for every input:
- *  - Any bytes, any lengths and any settings get an answer: 0, or the number of the first fault in
- *    a fixed order of checking. Nothing has to be checked first.
- *  - On a refusal nothing that was lent is changed.
- *  - With the same settings, a record that was read is written back as the same bytes with reserved
- *    bits cleared, and a packet that was written is read back as the same record.
+ * What is proved of both functions, for every input, each with its theorem (docs/PROMISES.md):
+ *  - Any bytes, any lengths and any settings get an answer: the number of the first fault in a
+ *    fixed order of checking, or 0, which comes exactly when there is no fault. With a number
+ *    nothing that was lent has changed. With 0 the packet's record, or the packet's bytes and their
+ *    size, are in what was lent, and what lies past them has not changed (ExportedDemand1).
+ *  - With the same settings, bytes that were read into a record, and written from it with the
+ *    payload that stands in them, are the same bytes with reserved bits cleared
+ *    (RecordReadThenWrite).
+ *  - With the same settings, a packet that was written from a record is read back as the same
+ *    record and the same payload (RecordWriteThenRead).
  *
  * They keep no state and allocate nothing, so any number of threads may call them at once.
  *

@@ -5,7 +5,8 @@ record.txt, the definitions to believe, the lines of each crate, the must-fail e
     documents.py --write    fill them
     documents.py --check    fail, with a line for each fault, where a part is not what it would be filled with, a document is larger than
                             it may be, a line is too wide, a name stands for nothing in the tree, a public function has no row in
-                            docs/TESTING.md, or README shows another answer than the second implementation gives
+                            docs/TESTING.md, README shows another answer than the second implementation gives, or a theorem that a
+                            document or the header names is not stated and proved (theorems.py)
 """
 import glob
 import os
@@ -19,6 +20,7 @@ sys.path.insert(0, os.path.join(ROOT, "host", "second"))
 
 import capture
 import reads
+import theorems
 
 HEADER = "host/include/tollpebble.h"
 # The most bytes of a document, the columns of a line, and the lines of an entry in docs/LANDINGS.md.
@@ -359,7 +361,8 @@ def faults():
         found += wide_lines(name)
         if name not in NAMES_UNCHECKED:
             found += missing_names(name)
-    return found + long_entries("docs/LANDINGS.md") + functions_left_out("docs/TESTING.md") + wrong_examples("README.md")
+    found += long_entries("docs/LANDINGS.md") + functions_left_out("docs/TESTING.md") + wrong_examples("README.md")
+    return found + theorems.faults(HEADER, [name for name in documents() if name != "docs/LANDINGS.md"])
 
 
 def write():

@@ -5,7 +5,7 @@ use mathlib.Core.List.{List, [], _++_, append-nil, append-assoc}
 use native.Mathlib.Nat.{zero-add, add-zero, le-of-eq}
 use native.Mathlib.Omega.{arith}
 use lib.ListN.{length, take, drop, length-append, length-drop, length-take, drop-of-length-le, take-append-drop}
-use lib.Seq.{take-all, take-length, drop-drop, take-append-seam, drop-append-add}
+use lib.Seq.{take-all, take-at, take-length, drop-drop, take-append-seam, drop-append-add}
 use borrow.Rule.Slice.PartMut.{putMid}
 use Rattle.bits.specs.Put.{put, overFront}
 
@@ -37,6 +37,10 @@ put-nothing at out = rw (add-zero at) (sym (take-append-drop at out))
 pub put-front : (xs out : List ℕ) → put 0 xs out ≡ overFront xs out
 unfolding put
 put-front xs out = rw zero-add
+
+-- what is laid over a front stands there
+pub front-laid : (xs out : List ℕ) (n : ℕ) → n ≡ length xs → take n (overFront xs out) ≡ xs
+front-laid xs out n e = take-at xs (drop (length xs) out) n (sym e)
 
 -- one list after another
 pub put-next : (a b out : List ℕ) → put (length a) b (put 0 a out) ≡ put 0 (a ++ b) out

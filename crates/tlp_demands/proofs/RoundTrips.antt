@@ -3,9 +3,8 @@ use Prim.Native.Nat.{ℕ}
 use mathlib.Core.Path.{_≡_, sym, ap, _∙_}
 use mathlib.Core.List.{List}
 use native.Mathlib.Nat.{le-refl}
-use lib.ListN.{length, take, drop}
-use lib.Seq.{take-at}
-use Rattle.bits.specs.Put.{overFront}
+use lib.ListN.{length, take}
+use Rattle.bits.proofs.PutLaws.{front-laid}
 use Rattle.tlp.specs.declared.settings.Settings.{Settings}
 use Rattle.tlp.specs.declared.packet.Packet.{Packet}
 use Rattle.tlp_write.specs.Layout.{bytesOf}
@@ -16,14 +15,10 @@ use Rattle.tlp_demands.proofs.WriteRead.{written-none, bytes-read}
 use Rattle.tlp_demands.proofs.ReadWrite.{read-written}
 use Rattle.tlp_demands.proofs.WrittenBytes.{written-small}
 
--- what is laid over a front stands there
-pub front-is : (xs out : List ℕ) (n : ℕ) → n ≡ length xs → take n (overFront xs out) ≡ xs
-front-is xs out n e = take-at xs (drop (length xs) out) n (sym e)
-
 module _ (settings : Settings) (p : Packet) (payload out : List ℕ) (size : ℕ) (e : writePacket settings p (length payload) (length out) ≡ Written size) where
   front-written : take size (writeOut settings p payload out) ≡ bytesOf p payload
   unfolding writeOut
-  front-written = rw e (front-is (bytesOf p payload) out size (bytes-read settings p payload (length out) size e .1 .1))
+  front-written = rw e (front-laid (bytesOf p payload) out size (bytes-read settings p payload (length out) size e .1 .1))
 
 pub write-then-read : WriteThenRead
 write-then-read settings p payload out size e =

@@ -1,13 +1,14 @@
 -- What is written is bytes, where the payload is: every number below 256.
-use Prim.Native.Nat.{ℕ, zero, suc, _*_, _^_, _<_}
+use Prim.Native.Nat.{ℕ, _*_, _^_, _<_}
 use mathlib.Core.Path.{_≡_}
-use mathlib.Core.Bool.{Bool, true, false}
+use mathlib.Core.Bool.{false}
 use mathlib.Core.List.{List, [], _∷_, _++_}
 use native.Mathlib.Omega.{arith}
 use lib.Dec.{ltb}
 use Rattle.bits.specs.Choice.{pick}
 use Rattle.bits.specs.Field.{low}
 use Rattle.bits.specs.Word.{bytes, Bytes}
+use Rattle.bits.proofs.BytesLaws.{Each, each-bytes, bytes-each, each-append, each-of, each-pick}
 use Rattle.tlp.specs.PacketTypes.{firstByte}
 use Rattle.tlp.specs.Packets.{addressOf, idOf, typeOf}
 use Rattle.tlp.specs.declared.packet_type.PacketType.{PacketType}
@@ -27,33 +28,6 @@ use Rattle.tlp_write.specs.Layout.{routing, routingIn, requestBytes, memoryAddr
 use Rattle.tlp_demands.proofs.Tests.{right-no}
 use Rattle.tlp_demands.proofs.Fits.{request-fits, config-fits, message-fits, completion-fits}
 use Rattle.tlp_demands.proofs.Front.{flag-lt}
-
--- each of a list's numbers, in turn
-abbrev Each : List ℕ → Type 0
-Each [] = Unit {0}
-Each (x ∷ xs) = (x < 256) × Each xs
-
-each-bytes : (xs : List ℕ) → Each xs → Bytes xs
-each-bytes [] h zero = omega arith
-each-bytes [] h (suc i) = omega arith
-each-bytes (x ∷ xs) h zero = h .0
-each-bytes (x ∷ xs) h (suc i) = each-bytes xs (h .1) i
-
-bytes-each : (xs : List ℕ) → Bytes xs → Each xs
-bytes-each [] h = tt
-bytes-each (x ∷ xs) h = (h 0, bytes-each xs (λ i. h (suc i)))
-
-each-append : (xs ys : List ℕ) → Each xs → Each ys → Each (xs ++ ys)
-each-append [] ys h k = k
-each-append (x ∷ xs) ys h k = (h .0, each-append xs ys (h .1) k)
-
-each-of : (k x : ℕ) → Each (bytes k x)
-each-of zero x = tt
-each-of (suc k) x = (omega arith, each-of k x)
-
-each-pick : (b : Bool) (xs ys : List ℕ) → Each xs → Each ys → Each (pick b xs ys)
-each-pick true xs ys h k = h
-each-pick false xs ys h k = k
 
 -- ---- the header from byte 4 on
 
