@@ -68,9 +68,9 @@ module _ (o : Origin) (tag : ℕ) (r : Read) (b : List ℕ) where
       let n = eqb-true _ _ (z .0) in
       record { reads = n; completion = z .1; piece = k; size = piece-size (o .settings) b n (z .1) (k .with-data) }
 
-  pub bytes-clean : first (readRows (o .settings) b) ≡ 0 → isCompletion (packetIn b) ≡ true → CleanPiece o tag r (pieceIn b) → cleanPacket o tag r b ≡ true
-  unfolding cleanPacket readsAsCompletion
-  bytes-clean n c k = rw (n, c, fields-clean o tag r (pieceIn b) k)
+  pub bytes-clean : readsAsCompletion o b ≡ true → CleanPiece o tag r (pieceIn b) → cleanPacket o tag r b ≡ true
+  unfolding cleanPacket
+  bytes-clean n k = rw (n, fields-clean o tag r (pieceIn b) k)
 
 -- "n is 1 to L - p"
 pub legal-length : (o : Origin) (r : Read) (c : Piece) → legal o r c ≡ true → (1 ≤ c .length) × (c .length ≤ owedOf r)

@@ -2,6 +2,7 @@ pub mod AsWriter
 pub mod Tests
 pub mod PieceSizes
 pub mod CleanPieces
+pub mod Passes
 pub mod OneTake
 pub mod Demand2
 pub mod LawfulPieces
@@ -13,6 +14,7 @@ pub mod Says
 pub mod Ends
 pub mod Frames
 pub mod Demand1
+pub mod Failures
 pub mod WindowBytes
 pub mod Delivery
 pub mod Demand3

@@ -12,8 +12,9 @@ use Rattle.reads_rules.specs.declared.origin.Origin.{Origin}
 use Rattle.reads_rules.specs.declared.state.State.{State}
 use Rattle.reads_rules.specs.declared.state.State.the-variants.{Free}
 use Rattle.reads_words.specs.Capacity.{capacity}
+use Rattle.reads_words.specs.Words.{clearRead}
 use Rattle.reads_slots.specs.Inner.Fits.{FitsIn}
-use Rattle.reads_slots.proofs.RecordLaws.{length-opened, length-words, record-empty, record-same, below-in, below-over, below-free, below-fits, below-other}
+use Rattle.reads_slots.proofs.RecordLaws.{length-opened, length-words, record-empty, record-freed, record-same, below-in, below-over, below-free, below-fits, below-other}
 use Rattle.reads.specs.declared.table.Table.{Table}
 use Rattle.reads.proofs.TableLaws.{limit-fits}
 use Rattle.reads.specs.Tables.{tagLimit, newTable, stateAt, withState}
@@ -44,6 +45,11 @@ state-new o u = below-free (tagLimit (o .settings)) (newTable o .opened) (newTab
 pub state-fits : (t : Table) (u : ℕ) → FitsIn (stateAt t u)
 unfolding stateAt
 state-fits t u = below-fits (limitOf t) (t .opened) (t .words) u
+
+-- a tag that is freed is free, in a table of any size
+pub state-freed : (t : Table) (u : ℕ) → stateAt (withState t u Free) u ≡ Free
+unfolding stateAt withState
+state-freed t u = below-free (limitOf t) _ _ u (record-freed (t .opened) (clearRead (t .words) u) u)
 
 -- ---- one record set
 

@@ -7,32 +7,28 @@ use mathlib.Core.List.{List}
 use native.Mathlib.Omega.{arith}
 use lib.Dec.{eqb}
 use lib.ListN.{length}
-use borrow.Author.Tests.{eqb-true, eqb-false, eq-eqb, not-false}
+use borrow.Author.Tests.{eqb-true, eqb-false, not-false}
 use Rattle.bits.specs.Choice.{pick}
-use Rattle.tlp.specs.Rows.{first, NoneHold}
-use Rattle.tlp.proofs.RowLaws.{first-none, none-first}
+use Rattle.tlp.specs.Rows.{first}
 use Rattle.tlp.specs.declared.packet.Packet.{Packet}
 use Rattle.tlp_read.specs.Read.{readRows, readPacket, answerOf, payloadOf, packetIn, payloadIn}
 use Rattle.reads_rules.specs.declared.read.Read.{Read}
 use Rattle.reads_rules.specs.declared.piece.Piece.{Piece}
-use Rattle.reads_rules.specs.declared.origin.Origin.{Origin}
 use Rattle.reads_rules.specs.Windows.{holdsWindow}
 use Rattle.reads_rules.specs.Validity.{owedOf}
 use Rattle.reads_rules.specs.Pieces.{pieceOf, pieceIn}
 use Rattle.reads_rules.specs.Continuations.{succeeds, statusBad, legal, reported}
-use Rattle.reads_rules.specs.declared.state.State.{State}
-use Rattle.reads_rules.specs.declared.state.State.the-variants.{Free, Open}
-use Rattle.reads_rules.specs.States.{isOpen}
 use Rattle.reads.specs.declared.table.Table.{Table}
-use Rattle.reads.specs.declared.table.Taking.{Taking}
 use Rattle.reads_answers.specs.declared.TakeAnswer.{TakeAnswer}
 use Rattle.reads_answers.specs.declared.TakeAnswer.the-variants.{More, Done, Failed, Poisoned, Unread, Refused}
 use Rattle.reads.specs.Tables.{stateAt, validTable}
-use Rattle.reads_answers.specs.Takes.{readIn, tagOf, ownRows, outcome, numberOr, packetAnswer}
+use Rattle.reads.specs.Answers.{takeNumber}
+use Rattle.reads_answers.specs.Takes.{readIn, tagOf, outcome}
 use Rattle.reads.specs.TakeCall.{packetTaking, packetStore, answerTaking, answerStore, tableGiven, storeGiven, takeCall, takeStore}
-use Rattle.cuttings.specs.Lawful.{cleanPacket}
+use Rattle.cuttings.specs.Lawful.{readsAsCompletion}
 use Rattle.reads_demands.specs.Demand2.{Continues}
 use Rattle.reads_demands.proofs.Tests.{neither, asked}
+use Rattle.reads_demands.proofs.Passes.{passes, passed}
 use Rattle.reads_demands.proofs.CleanPieces.{CleanPiece, clean-bytes, bytes-clean, legal-length}
 
 -- "Taken means answered More, the last piece of a cutting Done."
@@ -49,29 +45,19 @@ more≢done e = let z : _≡_ {A = ℕ} 0 1 = cc in omega arith
 
 -- ---- the answer, from its parts
 
-valid-taken : (v : Bool) (x : Taking) (t : Table) → takes (pick v x (record { table = t; answer = Refused 11 }) .answer) ≡ true → (v ≡ true) × (takes (x .answer) ≡ true)
-valid-taken true x t e = (refl, e)
-valid-taken false x t e = absurd (false≢true e)
-
-read-taken : (t : Table) (n : ℕ) (p : Packet) (room : ℕ) → takes (answerTaking t (answerOf n p) room .answer) ≡ true
-    → (n ≡ 0) × (takes (packetAnswer (t .origin) (stateAt t (tagOf p)) p room) ≡ true)
-unfolding packetTaking
-read-taken t zero p room e = (refl, e)
-read-taken t (suc n) p room e = absurd (false≢true e)
-
-number-taken : (n : ℕ) (x : TakeAnswer) → takes (numberOr n x) ≡ true → (n ≡ 0) × (takes x ≡ true)
-number-taken zero x e = (refl, e)
-number-taken (suc n) x e = absurd (false≢true e)
+takes-number : (x : TakeAnswer) → takes x ≡ true → takeNumber x ≡ 0
+takes-number More e = refl
+takes-number Done e = refl
+takes-number (Failed status) e = refl
+takes-number Poisoned e = refl
+takes-number (Unread r) e = absurd (false≢true e)
+takes-number (Refused n) e = absurd (false≢true e)
 
 outcome-taken : (a b d : Bool) (status : ℕ)
     → takes (pick a (pick b Poisoned (pick d Done More)) (Failed status)) ≡ true → (a ≡ true) × (b ≡ false)
 outcome-taken true true d status e = absurd (false≢true e)
 outcome-taken true false d status e = (refl, refl)
 outcome-taken false b d status e = absurd (false≢true e)
-
-pub open-read : (x : State) → isOpen x ≡ true → x ≡ Open (readIn x)
-open-read Free e = absurd (false≢true e)
-open-read (Open r) e = refl
 
 -- ---- table and store afterwards, by the answer
 
@@ -115,50 +101,6 @@ clean-status c ok d m = rw (ok, d, m, eqb-true (c .header .status) 0b000 ok)
 
 -- ---- More or Done, exactly when the packet continues
 
--- of a packet's bytes and the record x of its tag
-record MetBy (o : Origin) (x : State) (b : List ℕ) (room : ℕ) : Type 0 where
-  is-open : isOpen x ≡ true
-  is-clean : cleanPacket o (pieceIn b .header .tag) (readIn x) b ≡ true
-  is-legal : legal o (readIn x) (pieceIn b) ≡ true
-  holds : holdsWindow (readIn x .request) room ≡ true
-
-module _ (o : Origin) (x : State) (b : List ℕ) (room : ℕ) where
-  packet-meets : first (readRows (o .settings) b) ≡ 0 → takes (packetAnswer o x (packetIn b) room) ≡ true → MetBy o x b room
-  unfolding packetAnswer outcome
-  packet-meets z e =
-      let c = pieceIn b in
-      let n = number-taken (first (ownRows o x (packetIn b) room)) (outcome (readIn x) c) e in
-      let u = outcome-taken (succeeds c) (c .poisoned) (eqb (c .length) (owedOf (readIn x))) (reported (c .header .status)) (n .1) in
-      let (r29, (r30, (r31, (r32, (r33, (r34, _)))))) = first-none (ownRows o x (packetIn b) room) refl (n .0) in
-      let p = neither (not (eqb (c .requester) (o .requester))) (not (isOpen x)) r30 in
-      let d = status-clean c (u .0) r32 in
-      let k : CleanPiece o (c .header .tag) (readIn x) c = record {
-        with-data = d .0;
-        status = u .0;
-        poisoned = u .1;
-        modified = d .1;
-        requester = eqb-true _ _ (not-false _ (p .0));
-        matches = refl;
-        same = r31;
-      } in
-      record {
-        is-open = not-false _ (p .1);
-        is-clean = bytes-clean o (c .header .tag) (readIn x) b z (not-false _ r29) k;
-        is-legal = asked (succeeds c) (legal o (readIn x) c) (u .0) r33;
-        holds = asked (succeeds c) (holdsWindow (readIn x .request) room) (u .0) r34;
-      }
-
-  packet-answers : MetBy o x b room → packetAnswer o x (packetIn b) room ≡ pick (eqb (pieceIn b .length) (owedOf (readIn x))) Done More
-  unfolding packetAnswer outcome
-  packet-answers m =
-      let c = pieceIn b in
-      let f = clean-bytes o (c .header .tag) (readIn x) b (m .is-clean) in
-      let k = f .piece in
-      let r32 = clean-status c (k .status) (k .with-data) (k .modified) in
-      let none : NoneHold (ownRows o x (packetIn b) room) = (rw (f .completion), (rw (eq-eqb _ _ (k .requester), m .is-open), (k .same, (r32, (rw (k .status, m .is-legal), (rw (k .status, m .holds), tt)))))) in
-      let n = none-first (ownRows o x (packetIn b) room) none in
-      rw (n, k .status, k .poisoned)
-
 done-when : (a : Bool) → pick a Done More ≡ Done → a ≡ true
 done-when true e = refl
 done-when false e = absurd (more≢done e)
@@ -175,24 +117,52 @@ module _ (t : Table) (b : List ℕ) (room : ℕ) where
     pub continues : Continues t b room read
 
   pub meets : takes (takeCall t b room .answer) ≡ true → Met
-  unfolding takeCall readPacket
+  unfolding outcome
   meets e =
-      let x = stateAt t (pieceIn b .header .tag) in
-      let n = first (readRows (t .origin .settings) b) in
-      let v = valid-taken (validTable t) (answerTaking t (answerOf n (packetIn b)) room) t e in
-      let r = read-taken t n (packetIn b) room (v .1) in
-      let m = packet-meets (t .origin) x b room (r .0) (r .1) in
+      let c = pieceIn b in
+      let (r, k) = passes t b room (takes-number (takeCall t b room .answer) e) in
+      let m = k .matches in
+      let u = outcome-taken (succeeds c) (c .poisoned) (eqb (c .length) (owedOf r)) (reported (c .header .status)) (rw (passed t b room r k) at e) in
+      let d = status-clean c (u .0) (m .status) in
+      let piece : CleanPiece (t .origin) (c .header .tag) r c = record {
+        with-data = d .0;
+        status = u .0;
+        poisoned = u .1;
+        modified = d .1;
+        requester = m .requester;
+        matches = refl;
+        same = m .same;
+      } in
       record {
-        valid = v .0;
-        read = readIn x;
-        continues = record { is-open = open-read x (m .is-open); is-clean = m .is-clean; is-legal = m .is-legal; holds = m .holds };
+        valid = k .valid;
+        read = r;
+        continues = record {
+          is-open = m .is-open;
+          is-clean = bytes-clean (t .origin) (c .header .tag) r b (m .reads) piece;
+          is-legal = asked (succeeds c) (legal (t .origin) r c) (u .0) (k .continues);
+          holds = asked (succeeds c) (holdsWindow (r .request) room) (u .0) (k .holds);
+        };
       }
 
   pub continues : (r : Read) → validTable t ≡ true → Continues t b room r → takeCall t b room .answer ≡ pick (eqb (pieceIn b .length) (owedOf r)) Done More
-  unfolding takeCall readPacket packetTaking
+  unfolding outcome readsAsCompletion
   continues r v c =
-      let k = clean-bytes (t .origin) (pieceIn b .header .tag) r b (c .is-clean) in
-      rw (v, k .reads, c .is-open) (packet-answers (t .origin) (Open r) b room (record { is-open = refl; is-clean = c .is-clean; is-legal = c .is-legal; holds = c .holds }))
+      let f = clean-bytes (t .origin) (pieceIn b .header .tag) r b (c .is-clean) in
+      let k = f .piece in
+      passed t b room r
+      (record {
+        valid = v;
+        matches = record {
+          reads = rw (f .reads, f .completion);
+          requester = k .requester;
+          is-open = c .is-open;
+          same = k .same;
+          status = clean-status (pieceIn b) (k .status) (k .with-data) (k .modified);
+        };
+        continues = rw (k .status, c .is-legal);
+        holds = rw (k .status, c .holds);
+      })
+      ∙ rw (k .status, k .poisoned)
 
   -- Done when n = L - p, otherwise More
   pub done-last : (m : Met) → takeCall t b room .answer ≡ Done → pieceIn b .length ≡ owedOf (m .read)

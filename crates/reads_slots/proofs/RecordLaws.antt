@@ -13,7 +13,7 @@ use Rattle.reads_rules.specs.declared.read.Read.{Read}
 use Rattle.reads_rules.specs.declared.state.State.{State}
 use Rattle.reads_rules.specs.declared.state.State.the-variants.{Free, Open}
 use Rattle.reads_words.specs.Capacity.{capacity}
-use Rattle.reads_words.specs.TagSets.{withBit, withoutBit, contains}
+use Rattle.reads_words.specs.TagSets.{withBit, withoutBit, contains, withoutTag}
 use Rattle.reads_words.proofs.SetLaws.{empty-in, length-changed, in-with, in-without, in-with-other, in-without-other}
 use Rattle.reads_words.proofs.OrderLaws.{with-twice, without-twice, without-after, with-after, with-with-tag, without-without-tag, without-with-tag}
 use Rattle.reads_words.specs.Words.{readAt, putRead, clearRead}
@@ -55,10 +55,15 @@ record-fits opened words tag = go (contains opened tag)
     go true = open-fits (readAt words tag .request) (readAt words tag .taken) (at-fits words tag)
     go false = free-fits
 
+-- a tag taken out of the set is free, whatever the words are
+pub record-freed : (opened words : List ℕ) (tag : ℕ) → recordAt (withoutTag opened tag) words tag ≡ Free
+unfolding recordAt
+record-freed opened words tag = rw (in-without opened tag)
+
 module _ (opened words : List ℕ) (tag : ℕ) where
   pub record-same : (x : State) → tag < capacity → length opened ≡ capacity / 64 → length words ≡ 4 * capacity → FitsIn x → recordAt (openedWith opened tag x) (wordsWith words tag x) tag ≡ x
   unfolding recordAt
-  record-same Free k l m f = rw (in-without opened tag)
+  record-same Free k l m f = record-freed opened (clearRead words tag) tag
   record-same (Open r) k l m f = rw (in-with opened tag k (omega arith), read-put words tag r k (omega arith) (f r refl))
 
   pub record-other : (x : State) (u : ℕ) → (u ≡ tag → ⊥) → recordAt (openedWith opened tag x) (wordsWith words tag x) u ≡ recordAt opened words u
