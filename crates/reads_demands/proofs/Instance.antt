@@ -1,12 +1,15 @@
--- The premises of delivery hold of the worked list, each computed; so do its answers.
-use Prim.Native.Nat.{ℕ}
-use mathlib.Core.Path.{_≡_, refl, sym, _∙_}
-use mathlib.Core.Bool.{true}
-use mathlib.Core.Option.{some}
+-- The premises of delivery hold of the worked lists, each computed; so do answers and windows.
+use Prim.Native.Nat.{ℕ, _+_, _*_, _<_}
+use mathlib.Core.Path.{_≡_, refl, sym, ap, _∙_}
+use mathlib.Core.Bool.{Bool, true, not, _||_, _&&_, and-eq-true-iff}
+use mathlib.Core.Option.{Option, none, some}
 use mathlib.Core.List.{List, [], _∷_, _++_}
-use native.Mathlib.Omega.{arith}
-use lib.ListN.{length, replicate}
-use lib.Seq.{getD-append-add}
+use lib.Dec.{eqb, ltb}
+use lib.ListN.{length, drop, getD}
+use lib.Seq.{getD-take, getD-drop}
+use borrow.Author.Tests.{eqb-true, eq-eqb, ltb-true}
+use Rattle.bits.specs.Same.{sameList}
+use Rattle.bits.proofs.SameLaws.{same-yes}
 use Rattle.bits.specs.Count.{clearBelow, clearAbove}
 use Rattle.byte_enables.specs.Enables.{enablesAllowed, off, trail, total, enablesAt, enabled}
 use Rattle.scans.specs.Belows.{allBelow, anyBelow, sumBelow}
@@ -26,76 +29,118 @@ use Rattle.reads_rules.specs.Windows.{placeBad, sharesByte, holdsWindow}
 use Rattle.reads_rules.specs.Validity.{validRead, owedOf}
 use Rattle.reads_rules.specs.Pieces.{isCompletion, pieceOf}
 use Rattle.reads_rules.specs.Continuations.{byteCountAt, lowerAddressAt, cutAllowed, legal, statusBad, differs, clean}
+use Rattle.reads_rules.specs.declared.request.ReadRequest.{ReadRequest}
 use Rattle.reads_store.specs.Stores.{stored}
 use Rattle.reads_words.specs.TagSets.{contains, changed, withBit, withoutBit}
 use Rattle.reads_words.specs.Words.{readAt, readOf, putRead, putWords, clearRead}
 use Rattle.reads_slots.specs.Records.{recordAt, stateBelow}
 use Rattle.reads.specs.declared.table.Table.{Table}
 use Rattle.reads.specs.Tables.{tagLimit, newTable, stateAt, withState, validTable, sharesOpen, owedSum}
-use Rattle.reads.specs.Answers.{openNumber, takeNumber}
+use Rattle.reads.specs.Answers.{openNumber, takeNumber, withdrawNumber}
 use Rattle.reads.specs.OpenCall.{openCall}
 use Rattle.reads.specs.TakeCall.{packetTaking, packetStore, takeCall, takeStore}
 use Rattle.reads_answers.specs.Takes.{outcome, packetAnswer}
 use Rattle.reads.specs.OtherCalls.{withdrawCall, owedCall}
 use Rattle.cuttings.specs.Lawful.{readsAsCompletion, cleanPacket, lawfulFrom, lawfulCutting}
-use Rattle.reads_demands.specs.History.{opening, taking}
-use Rattle.reads_demands.specs.Demand3.{next, run, answers, calls, pieces, Undisturbed, SameWindow, SameStore, Delivered}
-use Rattle.reads_demands.specs.Instance.{origin, read, shortRead, piece₁, piece₂, piece₃, storeOf, rest₀, rest₁, rest₂, out, list, given, before, between, afterwards, opened, Premises}
+use Rattle.reads_demands.specs.History.{Call, taking, Event, openEvent, takeEvent, withdrawEvent, owedEvent, pieceTag}
+use Rattle.reads_demands.specs.Demand3.{next, answered, lent, left, run, answers, reached, Item, other, piece, calls, pieces}
+use Rattle.reads_demands.specs.Demand3.{Harmless, Undisturbed, SameWindow, orLast, SameStore, Delivered}
+use Rattle.reads_demands.specs.Instance.{Worked, list, opened, windowOf, Premises, wholeWorked, trimmedWorked, WorkedHold}
 use Rattle.reads_demands.proofs.Demand3.{demand3}
 
--- after the first piece, after the refused take, and after the other opening
-abbrev t₁ : Table
-t₁ = next opened (taking piece₁ (storeOf 11 rest₀))
+-- ---- the calls between, as a test
 
-abbrev t₂ : Table
-t₂ = next t₁ (taking piece₁ (storeOf 12 rest₁))
+abbrev harmless : ℕ → Event → Bool
+harmless tag (openEvent q u store out x) = true
+harmless tag (takeEvent b store x) = not (eqb (pieceTag b) tag) || ltb 0 (takeNumber x)
+harmless tag (withdrawEvent u x) = not (eqb u tag) || ltb 0 (withdrawNumber x)
+harmless tag (owedEvent x) = true
 
-abbrev t₃ : Table
-t₃ = next t₂ (opening shortRead 6 (storeOf 13 rest₁) out)
+refused : (u tag n : ℕ) → not (eqb u tag) || ltb 0 n ≡ true → u ≡ tag → 0 < n
+refused u tag n h e = ltb-true 0 n (rw (eq-eqb u tag e) at h)
 
--- what is computed from the definitions: beside the premises, the stores that the takes leave
-record Computed : Type 0 where
-  listed : settingsListed (origin .settings) ≡ true
-  accepted : openNumber (openCall (run (newTable origin) before) read 5 (length (storeOf 10 rest₀)) (length out) .answer) ≡ 0
-  lawful : lawfulCutting origin 5 read (pieces between ++ (piece₃ ∷ [])) ≡ true
-  answered : answers (newTable origin) [] list ≡ given
-  refused : takeNumber (takeCall t₁ piece₁ (length (storeOf 12 rest₁)) .answer) ≡ 33
-  left₁ : takeStore opened piece₁ (storeOf 11 rest₀) ≡ storeOf 11 rest₁
-  left₂ : takeStore t₁ piece₁ (storeOf 12 rest₁) ≡ storeOf 12 rest₁
-  left₃ : takeStore t₃ piece₂ (storeOf 14 rest₁) ≡ storeOf 14 rest₂
+is-harmless : (tag : ℕ) (e : Event) → harmless tag e ≡ true → Harmless tag e
+is-harmless tag (openEvent q u store out x) h = tt
+is-harmless tag (takeEvent b store x) h = refused (pieceTag b) tag (takeNumber x) h
+is-harmless tag (withdrawEvent u x) h = refused u tag (withdrawNumber x) h
+is-harmless tag (owedEvent x) h = tt
 
-computed : Computed
+abbrev undisturbed : ℕ → Table → List Item → Bool
+undisturbed tag t [] = true
+undisturbed tag t (other c ∷ is) = harmless tag (answered t c) && undisturbed tag (next t c) is
+undisturbed tag t (piece b store ∷ is) = undisturbed tag (next t (taking b store)) is
+
+is-undisturbed : (tag : ℕ) (t : Table) (is : List Item) → undisturbed tag t is ≡ true → Undisturbed tag t is
+is-undisturbed tag t [] h = tt
+is-undisturbed tag t (other c ∷ is) h =
+    let p = and-eq-true-iff (harmless tag (answered t c)) (undisturbed tag (next t c) is) .0 h in
+    (is-harmless tag (answered t c) (p .0), is-undisturbed tag (next t c) is (p .1))
+is-undisturbed tag t (piece b store ∷ is) h = is-undisturbed tag (next t (taking b store)) is h
+
+-- ---- the same store, as a test
+
+abbrev sameWindow : ReadRequest → List ℕ → Option (List ℕ) → Bool
+sameWindow q last none = true
+sameWindow q last (some store) = eqb (length store) (length last) && sameList (windowOf q store) (windowOf q last)
+
+window-byte : (q : ReadRequest) (store : List ℕ) (k : ℕ) → k < 4 * q .access .length → getD (windowOf q store) k 0 ≡ getD store (q .start + k) 0
+window-byte q store k h = getD-take (4 * q .access .length) (drop (q .start) store) k 0 h ∙ getD-drop (q .start) store k 0
+
+is-same-window : (q : ReadRequest) (last : List ℕ) (x : Option (List ℕ)) → sameWindow q last x ≡ true → SameWindow q last x
+is-same-window q last none h = tt
+is-same-window q last (some store) h =
+    let p = and-eq-true-iff (eqb (length store) (length last)) (sameList (windowOf q store) (windowOf q last)) .0 h in
+    let e = same-yes (windowOf q store) (windowOf q last) (p .1) in
+    (eqb-true _ _ (p .0), λ k l. sym (window-byte q store k l) ∙ (ap (λ (w : List ℕ). getD w k 0) e ∙ window-byte q last k l))
+
+abbrev sameStore : ReadRequest → Table → List ℕ → List Call → Bool
+sameStore q t last [] = true
+sameStore q t last (c ∷ cs) = sameWindow q last (lent c) && sameStore q (next t c) (orLast last (left t c)) cs
+
+is-same-store : (q : ReadRequest) (t : Table) (last : List ℕ) (cs : List Call) → sameStore q t last cs ≡ true → SameStore q t last cs
+is-same-store q t last [] h = tt
+is-same-store q t last (c ∷ cs) h =
+    let p = and-eq-true-iff (sameWindow q last (lent c)) (sameStore q (next t c) (orLast last (left t c)) cs) .0 h in
+    (is-same-window q last (lent c) (p .0), is-same-store q (next t c) (orLast last (left t c)) cs (p .1))
+
+-- ---- what is computed from the definitions
+record Computed (w : Worked) : Type 0 where
+  listed : settingsListed (w .origin .settings) ≡ true
+  accepted : openNumber (openCall (reached (w .origin) (w .before)) (w .read) (w .tag) (length (w .store₀)) (length (w .out)) .answer) ≡ 0
+  lawful : lawfulCutting (w .origin) (w .tag) (w .read) (pieces (w .between) ++ (w .lastPiece ∷ [])) ≡ true
+  calm : undisturbed (w .tag) (opened w) (w .between) ≡ true
+  same : sameStore (w .read) (opened w) (w .store₀) (calls (w .between) ++ (taking (w .lastPiece) (w .store) ∷ [])) ≡ true
+  given : answers (newTable (w .origin)) [] (list w) ≡ w .given
+  delivers : windowOf (w .read) (takeStore (run (opened w) (calls (w .between))) (w .lastPiece) (w .store)) ≡ w .window
+
+computed : Computed wholeWorked × Computed trimmedWorked
 unfolding run answers newTable stateAt withState tagLimit validTable openCall takeCall takeStore packetTaking packetStore packetAnswer outcome withdrawCall owedCall allBelow
     anyBelow sumBelow merged stored sharesOpen owedSum recordAt stateBelow contains changed withBit withoutBit readAt readOf putRead putWords clearRead validRead owedOf givenBad requestPacket placeBad sharesByte holdsWindow isCompletion pieceOf statusBad
     differs clean legal byteCountAt lowerAddressAt cutAllowed lawfulFrom cleanPacket readsAsCompletion first
     settingsListed commonBad ownBad requestBad reservedGiven addressRouteBad routeBad readPacket payloadOf hintOrAddressTypeSet routingBad formBad packetAt kindAt routeAt
     completionAt attributesAt plainBad enablesBad pageBad sizeOf bytesCalled digestBytes dataBytes digestAt lengthAt orMost typeAt typeOf accessOf enablesAllowed enabled
     enablesAt total off trail clearBelow clearAbove
-computed =
-    record { listed = refl; accepted = refl; lawful = refl; answered = refl; refused = refl; left₁ = refl; left₂ = refl; left₃ = refl }
+computed = (
+  record { listed = refl; accepted = refl; lawful = refl; calm = refl; same = refl; given = refl; delivers = refl },
+  record { listed = refl; accepted = refl; lawful = refl; calm = refl; same = refl; given = refl; delivers = refl },
+)
 
-undisturbed : Undisturbed 5 opened between
-undisturbed = (tt, ((λ e. rw (computed .refused) (omega arith)), (tt, tt)))
+premises-of : (w : Worked) → Computed w → Premises w
+premises-of w c = record {
+  listed = c .listed;
+  accepted = c .accepted;
+  lawful = c .lawful;
+  undisturbed = is-undisturbed (w .tag) (opened w) (w .between) (c .calm);
+  same = is-same-store (w .read) (opened w) (w .store₀) (calls (w .between) ++ (taking (w .lastPiece) (w .store) ∷ [])) (c .same);
+  answered = c .given;
+  delivers = c .delivers;
+}
 
--- ---- the same store
+pub premises : WorkedHold
+premises = record { whole = premises-of wholeWorked (computed .0); trimmed = premises-of trimmedWorked (computed .1) }
 
--- stores that are the same from byte 4 on
-same-window : (u v : ℕ) (rest : List ℕ) → SameWindow read (storeOf u rest) (some (storeOf v rest))
-same-window u v rest = (refl, λ k h. getD-append-add (replicate 4 v) rest k 0 ∙ sym (getD-append-add (replicate 4 u) rest k 0))
-
-same-left : (u v : ℕ) (rest : List ℕ) {left : List ℕ} → left ≡ storeOf u rest → SameWindow read left (some (storeOf v rest))
-same-left u v rest e = rw e (same-window u v rest)
-
-same : SameStore read opened (storeOf 10 rest₀) (calls between ++ (taking piece₃ (storeOf 15 rest₂) ∷ []))
-same =
-    (same-window 10 11 rest₀, (tt, (same-left 11 12 rest₁ (computed .left₁), (same-left 12 13 rest₁ (computed .left₂), (same-window 13 14 rest₁, (same-left 14 15 rest₂ (computed .left₃), tt))))))
-
-pub premises : Premises
-premises =
-    record { listed = computed .listed; split = refl; accepted = computed .accepted; lawful = computed .lawful; undisturbed = undisturbed; same = same; answered = computed .answered }
-
--- what the theorem then says of this list
-pub delivered : Delivered read 5 opened (storeOf 10 rest₀) between piece₃ (storeOf 15 rest₂)
-delivered =
-    demand3 origin list (premises .listed) .delivery before afterwards read 5 (storeOf 10 rest₀) out between piece₃ (storeOf 15 rest₂)
-    (premises .split) (premises .accepted) (premises .lawful) (premises .undisturbed) (premises .same)
+-- what the theorem then says of such a list
+pub delivered : (w : Worked) → Premises w → Delivered (w .read) (w .tag) (opened w) (w .store₀) (w .between) (w .lastPiece) (w .store)
+delivered w p =
+    demand3 (w .origin) (list w) (p .listed) .delivery (w .before) (w .afterwards) (w .read) (w .tag) (w .store₀) (w .out) (w .between) (w .lastPiece) (w .store)
+    refl (p .accepted) (p .lawful) (p .undisturbed) (p .same)

@@ -1,10 +1,11 @@
--- Delivery, worked, so that its premises are seen to hold together: P2's read taken in 96+128+32 bytes, with other
--- calls before, between and afterwards. The theorem is a `Premises`; no promise cites this file.
-use Prim.Native.Nat.{ℕ}
+-- Delivery, worked twice, so that its premises are seen to hold together: P2's read taken in 96+128+32 bytes, and a
+-- read with disabled bytes at both ends, taken in 8+64+8 bytes while a read of another tag is opened and taken. The
+-- theorem is a `WorkedHold`, proved in proofs/Instance; no promise cites this file.
+use Prim.Native.Nat.{ℕ, _*_}
 use mathlib.Core.Path.{_≡_}
 use mathlib.Core.Bool.{true}
 use mathlib.Core.List.{List, [], _∷_, _++_}
-use lib.ListN.{length, replicate}
+use lib.ListN.{length, replicate, take, drop}
 use Rattle.tlp.specs.Settings.{settingsListed}
 use Rattle.reads_rules.specs.declared.request.ReadRequest.{ReadRequest}
 use Rattle.reads_rules.specs.declared.origin.Origin.{Origin}
@@ -16,18 +17,68 @@ use Rattle.reads.specs.declared.answer.OwedAnswer.the-variants.{Owed}
 use Rattle.reads.specs.Tables.{newTable}
 use Rattle.reads.specs.Answers.{openNumber}
 use Rattle.reads.specs.OpenCall.{openCall}
+use Rattle.reads.specs.TakeCall.{takeStore}
 use Rattle.cuttings.specs.Lawful.{lawfulCutting}
-use Rattle.reads_demands.specs.Edges.{reading, longRead}
+use Rattle.reads_demands.specs.Edges.{reading, longRead, settingsWith}
 use Rattle.reads_demands.specs.History.{Call, opening, taking, withdrawing, asking}
 use Rattle.reads_demands.specs.History.{History, openEvent, takeEvent, withdrawEvent, owedEvent}
-use Rattle.reads_demands.specs.Demand3.{next, answers, reached}
+use Rattle.reads_demands.specs.Demand3.{next, run, answers, reached}
 use Rattle.reads_demands.specs.Demand3.{Item, other, piece, calls, pieces, Undisturbed, SameStore}
 
-abbrev pub origin : Origin
-origin = record { settings = record { mps = 128; mrrs = 512; rcb = 128 }; requester = 0x0100 }
+-- a list of calls: some before, the opening of a read, the stretch to its last piece, that piece, and some afterwards;
+-- with what the calls answer, the newest first, and the bytes of the window after the last piece
+pub record Worked : Type 0 where
+  pub origin : Origin
+  pub before : List Call
+  pub read : ReadRequest
+  pub tag : ℕ
+  pub store₀ : List ℕ
+  pub out : List ℕ
+  pub between : List Item
+  pub lastPiece : List ℕ
+  pub store : List ℕ
+  pub afterwards : List Call
+  pub given : History
+  pub window : List ℕ
 
-abbrev pub read : ReadRequest
-read = record { access = longRead; «traffic_class» = 0; attributes = 0; start = 4 }
+abbrev pub list : Worked → List Call
+list w =
+    w .before
+    ++ (opening (w .read) (w .tag) (w .store₀) (w .out)
+    ∷ (calls (w .between) ++ (taking (w .lastPiece) (w .store) ∷ w .afterwards)))
+
+-- the table after the opening
+abbrev pub opened : Worked → Table
+opened w = next (reached (w .origin) (w .before)) (opening (w .read) (w .tag) (w .store₀) (w .out))
+
+-- the bytes of a read's window
+abbrev pub windowOf : ReadRequest → List ℕ → List ℕ
+windowOf q store = take (4 * q .access .length) (drop (q .start) store)
+
+-- every premise of `delivery` in Demand3, the answers, and the window as the last piece leaves it
+pub record Premises (w : Worked) : Type 0 where
+  pub listed : settingsListed (w .origin .settings) ≡ true
+  pub accepted : openNumber (openCall (reached (w .origin) (w .before)) (w .read) (w .tag) (length (w .store₀))
+      (length (w .out)) .answer) ≡ 0
+  pub lawful : lawfulCutting (w .origin) (w .tag) (w .read) (pieces (w .between) ++ (w .lastPiece ∷ [])) ≡ true
+  pub undisturbed : Undisturbed (w .tag) (opened w) (w .between)
+  pub same : SameStore (w .read) (opened w) (w .store₀)
+      (calls (w .between) ++ (taking (w .lastPiece) (w .store) ∷ []))
+  pub answered : answers (newTable (w .origin)) [] (list w) ≡ w .given
+  pub delivers : windowOf (w .read) (takeStore (run (opened w) (calls (w .between))) (w .lastPiece) (w .store))
+      ≡ w .window
+
+-- a store: before the window four bytes, which others may write; then the rest
+abbrev pub storeOf : ℕ → List ℕ → List ℕ
+storeOf v rest = replicate 4 v ++ rest
+
+abbrev pub out : List ℕ
+out = replicate 12 0
+
+-- ---- P2's read, with other calls before, between and afterwards
+
+abbrev pub wholeRead : ReadRequest
+wholeRead = record { access = longRead; «traffic_class» = 0; attributes = 0; start = 4 }
 
 -- a read of one doubleword, whose window touches the other's end
 abbrev pub shortRead : ReadRequest
@@ -43,11 +94,7 @@ piece₂ = 0x4A ∷ 0x00 ∷ 0x00 ∷ 0x20 ∷ 0x02 ∷ 0x00 ∷ 0x00 ∷ 0xA0 �
 abbrev pub piece₃ : List ℕ
 piece₃ = 0x4A ∷ 0x00 ∷ 0x00 ∷ 0x08 ∷ 0x02 ∷ 0x00 ∷ 0x00 ∷ 0x20 ∷ 0x01 ∷ 0x00 ∷ 0x05 ∷ 0x00 ∷ replicate 32 3
 
--- a store of 264 bytes: before the window four bytes, which others may write; then the rest, at opening, with one piece
--- and with two
-abbrev pub storeOf : ℕ → List ℕ → List ℕ
-storeOf v rest = replicate 4 v ++ rest
-
+-- of a store of 264 bytes the rest: at opening, with one piece and with two
 abbrev pub rest₀ : List ℕ
 rest₀ = replicate 260 9
 
@@ -57,65 +104,120 @@ rest₁ = replicate 96 1 ++ replicate 164 9
 abbrev pub rest₂ : List ℕ
 rest₂ = replicate 96 1 ++ (replicate 128 2 ++ replicate 36 9)
 
-abbrev pub out : List ℕ
-out = replicate 12 0
+abbrev pub wholeWorked : Worked
+wholeWorked = record {
+  origin = record { settings = settingsWith 128; requester = 0x0100 };
+  before = withdrawing 5 ∷ [];
+  read = wholeRead;
+  tag = 5;
+  store₀ = storeOf 10 rest₀;
+  out = out;
+  between =
+      piece piece₁ (storeOf 11 rest₀)
+      ∷ other asking
+      ∷ other (taking piece₁ (storeOf 12 rest₁))
+      ∷ other (opening shortRead 6 (storeOf 13 rest₁) out)
+      ∷ piece piece₂ (storeOf 14 rest₁)
+      ∷ [];
+  lastPiece = piece₃;
+  store = storeOf 15 rest₂;
+  afterwards = asking ∷ [];
+  given =
+      owedEvent (Owed 1)
+      ∷ takeEvent piece₃ (storeOf 15 rest₂) Done
+      ∷ takeEvent piece₂ (storeOf 14 rest₁) More
+      ∷ openEvent shortRead 6 (storeOf 13 rest₁) out (Opened 12)
+      ∷ takeEvent piece₁ (storeOf 12 rest₁) (Refused 33)
+      ∷ owedEvent (Owed 40)
+      ∷ takeEvent piece₁ (storeOf 11 rest₀) More
+      ∷ openEvent wholeRead 5 (storeOf 10 rest₀) out (Opened 12)
+      ∷ withdrawEvent 5 (WithdrawRefused 25)
+      ∷ [];
+  window = replicate 96 1 ++ (replicate 128 2 ++ replicate 32 3);
+}
 
-abbrev pub list : List Call
-list =
-    withdrawing 5
-    ∷ opening read 5 (storeOf 10 rest₀) out
-    ∷ taking piece₁ (storeOf 11 rest₀)
-    ∷ asking
-    ∷ taking piece₁ (storeOf 12 rest₁)
-    ∷ opening shortRead 6 (storeOf 13 rest₁) out
-    ∷ taking piece₂ (storeOf 14 rest₁)
-    ∷ taking piece₃ (storeOf 15 rest₂)
-    ∷ asking
-    ∷ []
+-- ---- a read whose first two and last two bytes are disabled; between its pieces a read of tag 6 is opened and taken
 
--- what the calls answer, the newest first
-abbrev pub given : History
-given =
-    owedEvent (Owed 1)
-    ∷ takeEvent piece₃ (storeOf 15 rest₂) Done
-    ∷ takeEvent piece₂ (storeOf 14 rest₁) More
-    ∷ openEvent shortRead 6 (storeOf 13 rest₁) out (Opened 12)
-    ∷ takeEvent piece₁ (storeOf 12 rest₁) (Refused 33)
-    ∷ owedEvent (Owed 40)
-    ∷ takeEvent piece₁ (storeOf 11 rest₀) More
-    ∷ openEvent read 5 (storeOf 10 rest₀) out (Opened 12)
-    ∷ withdrawEvent 5 (WithdrawRefused 25)
-    ∷ []
+abbrev pub trimmedRead : ReadRequest
+trimmedRead = record { access = reading 0x10038 20 0b1100 0b0011; «traffic_class» = 0; attributes = 0; start = 4 }
 
--- the list as before, opening, between, last piece and afterwards
-abbrev pub before : List Call
-before = withdrawing 5 ∷ []
+-- a read of two doublewords, whose window touches the other's end
+abbrev pub splitRead : ReadRequest
+splitRead = record { access = reading 0x2003C 2 0b1111 0b1111; «traffic_class» = 0; attributes = 0; start = 84 }
 
-abbrev pub between : List Item
-between =
-    piece piece₁ (storeOf 11 rest₀)
-    ∷ other asking
-    ∷ other (taking piece₁ (storeOf 12 rest₁))
-    ∷ other (opening shortRead 6 (storeOf 13 rest₁) out)
-    ∷ piece piece₂ (storeOf 14 rest₁)
-    ∷ []
+-- of tag 5: 2, 16 and 2 doublewords; Byte Count 76, 70 and 6, Lower Address 58, 64 and 0
+abbrev pub trimmed₁ : List ℕ
+trimmed₁ = 0x4A ∷ 0x00 ∷ 0x00 ∷ 0x02 ∷ 0x02 ∷ 0x00 ∷ 0x00 ∷ 0x4C ∷ 0x01 ∷ 0x00 ∷ 0x05 ∷ 0x3A ∷ replicate 8 1
 
-abbrev pub afterwards : List Call
-afterwards = asking ∷ []
+abbrev pub trimmed₂ : List ℕ
+trimmed₂ = 0x4A ∷ 0x00 ∷ 0x00 ∷ 0x10 ∷ 0x02 ∷ 0x00 ∷ 0x00 ∷ 0x46 ∷ 0x01 ∷ 0x00 ∷ 0x05 ∷ 0x40 ∷ replicate 64 2
 
--- the table after the opening
-abbrev pub opened : Table
-opened = next (reached origin before) (opening read 5 (storeOf 10 rest₀) out)
+abbrev pub trimmed₃ : List ℕ
+trimmed₃ = 0x4A ∷ 0x00 ∷ 0x00 ∷ 0x02 ∷ 0x02 ∷ 0x00 ∷ 0x00 ∷ 0x06 ∷ 0x01 ∷ 0x00 ∷ 0x05 ∷ 0x00 ∷ replicate 8 3
 
--- every premise of `delivery` in Demand3, and the answers
-pub record Premises : Type 0 where
-  pub listed : settingsListed (origin .settings) ≡ true
-  pub split : list
-      ≡ before
-      ++ (opening read 5 (storeOf 10 rest₀) out ∷ (calls between ++ (taking piece₃ (storeOf 15 rest₂) ∷ afterwards)))
-  pub accepted : openNumber (openCall (reached origin before) read 5 (length (storeOf 10 rest₀)) (length out) .answer)
-      ≡ 0
-  pub lawful : lawfulCutting origin 5 read (pieces between ++ (piece₃ ∷ [])) ≡ true
-  pub undisturbed : Undisturbed 5 opened between
-  pub same : SameStore read opened (storeOf 10 rest₀) (calls between ++ (taking piece₃ (storeOf 15 rest₂) ∷ []))
-  pub answered : answers (newTable origin) [] list ≡ given
+-- of tag 6: one doubleword each; Byte Count 8 and 4, Lower Address 60 and 64
+abbrev pub split₁ : List ℕ
+split₁ = 0x4A ∷ 0x00 ∷ 0x00 ∷ 0x01 ∷ 0x02 ∷ 0x00 ∷ 0x00 ∷ 0x08 ∷ 0x01 ∷ 0x00 ∷ 0x06 ∷ 0x3C ∷ replicate 4 4
+
+abbrev pub split₂ : List ℕ
+split₂ = 0x4A ∷ 0x00 ∷ 0x00 ∷ 0x01 ∷ 0x02 ∷ 0x00 ∷ 0x00 ∷ 0x04 ∷ 0x01 ∷ 0x00 ∷ 0x06 ∷ 0x40 ∷ replicate 4 5
+
+-- of a store of 96 bytes the rest, with so many pieces of tag 5 and of tag 6
+abbrev pub rest₀₀ : List ℕ
+rest₀₀ = replicate 92 9
+
+abbrev pub rest₁₀ : List ℕ
+rest₁₀ = replicate 2 9 ++ (replicate 6 1 ++ replicate 84 9)
+
+abbrev pub rest₁₁ : List ℕ
+rest₁₁ = replicate 2 9 ++ (replicate 6 1 ++ (replicate 72 9 ++ (replicate 4 4 ++ replicate 8 9)))
+
+abbrev pub rest₂₁ : List ℕ
+rest₂₁ = replicate 2 9 ++ (replicate 6 1 ++ (replicate 64 2 ++ (replicate 8 9 ++ (replicate 4 4 ++ replicate 8 9))))
+
+abbrev pub rest₂₂ : List ℕ
+rest₂₂ =
+    replicate 2 9
+    ++ (replicate 6 1
+    ++ (replicate 64 2
+    ++ (replicate 8 9
+    ++ (replicate 4 4
+    ++ (replicate 4 5 ++ replicate 4 9)))))
+
+abbrev pub trimmedWorked : Worked
+trimmedWorked = record {
+  origin = record { settings = settingsWith 64; requester = 0x0100 };
+  before = asking ∷ [];
+  read = trimmedRead;
+  tag = 5;
+  store₀ = storeOf 10 rest₀₀;
+  out = out;
+  between =
+      piece trimmed₁ (storeOf 11 rest₀₀)
+      ∷ other (opening splitRead 6 (storeOf 12 rest₁₀) out)
+      ∷ other (taking split₁ (storeOf 13 rest₁₀))
+      ∷ piece trimmed₂ (storeOf 14 rest₁₁)
+      ∷ other (taking split₂ (storeOf 15 rest₂₁))
+      ∷ [];
+  lastPiece = trimmed₃;
+  store = storeOf 16 rest₂₂;
+  afterwards = asking ∷ [];
+  given =
+      owedEvent (Owed 0)
+      ∷ takeEvent trimmed₃ (storeOf 16 rest₂₂) Done
+      ∷ takeEvent split₂ (storeOf 15 rest₂₁) Done
+      ∷ takeEvent trimmed₂ (storeOf 14 rest₁₁) More
+      ∷ takeEvent split₁ (storeOf 13 rest₁₀) More
+      ∷ openEvent splitRead 6 (storeOf 12 rest₁₀) out (Opened 12)
+      ∷ takeEvent trimmed₁ (storeOf 11 rest₀₀) More
+      ∷ openEvent trimmedRead 5 (storeOf 10 rest₀₀) out (Opened 12)
+      ∷ owedEvent (Owed 0)
+      ∷ [];
+  -- the first two and the last two bytes are as at opening
+  window = 9 ∷ 9 ∷ (replicate 6 1 ++ (replicate 64 2 ++ (replicate 6 3 ++ (9 ∷ 9 ∷ []))));
+}
+
+-- the theorem
+pub record WorkedHold : Type 0 where
+  pub whole : Premises wholeWorked
+  pub trimmed : Premises trimmedWorked
