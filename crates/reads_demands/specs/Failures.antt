@@ -18,7 +18,8 @@ use Rattle.reads.specs.Tables.{stateAt, validTable}
 use Rattle.reads.specs.TakeCall.{takeCall, takeStore}
 use Rattle.cuttings.specs.Lawful.{readsAsCompletion}
 
--- the packet is a completion of the read r, which is open, and none of 29 to 32 is the case
+-- the packet is a completion of the read r, and not refused by "any reader number; 29 not Cpl or CplD; 30 requester ID
+-- is not the table's, or no such tag is open; 31 TC or any Attr bit differs from the read's", nor by 32
 pub record Matches (t : Table) (b : List ℕ) (r : Read) : Type 0 where
   pub reads : readsAsCompletion (t .origin) b ≡ true
   pub requester : pieceIn b .requester ≡ t .origin .requester
@@ -32,7 +33,8 @@ pub record Fails (t : Table) (b : List ℕ) (r : Read) (status : ℕ) : Type 0 w
   pub failing : succeeds (pieceIn b) ≡ false
   pub reports : reported (pieceIn b .header .status) ≡ status
 
--- "A poisoned one (EP set)": of status 000, after 33 and 34
+-- "A poisoned one (EP set)", of status 000, and not refused by "33 not a legal continuation; 34 store over 65,536 or
+-- too short for the window"
 pub record Poisons (t : Table) (b : List ℕ) (room : ℕ) (r : Read) : Type 0 where
   pub matches : Matches t b r
   pub successful : succeeds (pieceIn b) ≡ true
