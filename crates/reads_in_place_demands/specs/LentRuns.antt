@@ -1,23 +1,21 @@
--- A table lent over its life: every call finds it as the last one left it. Such a run is the core's run, and demand 3
--- is true of it. To be believed are `Leaves` and `Lent`; the theorems are `LeavesAsCore`, `LentRuns`, `LentAsCore` and
--- `LentDemand3Holds`.
+-- A table lent over its life: every call finds it as the last one left it. Such a run can be split at any call, and is
+-- the core's run: the same answers, tables, stores and outputs. To be believed are `Leaves`, `Made`, `Lent`, and what a
+-- run left: `callsOf`, `tableAfter`, `historyOf`. The theorems are `LeavesAsCore`, `LentSplits`, `LentRuns`,
+-- `LentAsCore`; demand 3 of such a run is in LentDemand3.
 use Prim.Native.Nat.{ℕ}
 use mathlib.Core.Path.{_≡_}
-use mathlib.Core.Bool.{true}
+use mathlib.Core.Logic.{_↔_}
 use mathlib.Core.Option.{Option, none, some}
-use mathlib.Core.List.{List, [], _∷_}
-use Rattle.tlp.specs.Settings.{settingsListed}
+use mathlib.Core.List.{List, [], _∷_, _++_}
 use Rattle.reads_rules.specs.declared.request.ReadRequest.{ReadRequest}
-use Rattle.reads_rules.specs.declared.origin.Origin.{Origin}
 use Rattle.reads_answers.specs.declared.TakeAnswer.{TakeAnswer}
 use Rattle.reads.specs.declared.answer.OpenAnswer.{OpenAnswer}
 use Rattle.reads.specs.declared.answer.WithdrawAnswer.{WithdrawAnswer}
 use Rattle.reads.specs.declared.answer.OwedAnswer.{OwedAnswer}
 use Rattle.reads.specs.declared.table.Table.{Table}
-use Rattle.reads.specs.Tables.{newTable, stateAt}
-use Rattle.reads_demands.specs.History.{Call, opening, taking, withdrawing, asking, History, recordsOf, answersOf}
+use Rattle.reads_demands.specs.History.{Call, opening, taking, withdrawing, asking, History}
 use Rattle.reads_demands.specs.History.{Event, openEvent, takeEvent, withdrawEvent, owedEvent}
-use Rattle.reads_demands.specs.Demand3.{next, answered, left, outputLeft, run, answers, Demand3}
+use Rattle.reads_demands.specs.Demand3.{next, answered, left, outputLeft, run, answers}
 use Rattle.reads_in_place.specs.LentTable.{OpenLeaves, TakeLeaves, WithdrawLeaves, OwedLeaves}
 
 -- a call on a lent table t, with its answer: the table t′, store and output that it leaves, by its contract; what is
@@ -34,44 +32,71 @@ pub data Leaves : Table → Call → Event → Table → Option (List ℕ) → L
       → Leaves t (withdrawing tag) (withdrawEvent tag x) t′ none []
   asks : {t : Table} {x : OwedAnswer} → OwedLeaves t x → Leaves t asking (owedEvent x) t none []
 
--- a table t and its history so far, the calls on it from there, and the table and history after them
-pub data Lent : Table → History → List Call → Table → History → Type 0 where
-  ends : {t : Table} {h : History} → Lent t h [] t h
-  calls : {t t₁ t′ : Table} {h h′ : History} {c : Call} {cs : List Call} {e : Event}
-      → {store : Option (List ℕ)} {out : List ℕ}
-      → Leaves t c e t₁ store out → Lent t₁ (e ∷ h) cs t′ h′ → Lent t h (c ∷ cs) t′ h′
+-- a call on a lent table as it was made: its answer, and the table, store and output that it left
+pub record Made : Type 0 where
+  pub call : Call
+  pub event : Event
+  pub table : Table
+  pub store : Option (List ℕ)
+  pub out : List ℕ
+
+-- made on a table t, by its contract
+abbrev pub LeftBy : Table → Made → Type 0
+LeftBy t m = Leaves t (m .call) (m .event) (m .table) (m .store) (m .out)
+
+-- calls made on a table one after the other, each on the table as the last one left it
+abbrev pub Lent : Table → List Made → Type 0
+Lent t [] = Unit {0}
+Lent t (m ∷ ms) = LeftBy t m × Lent (m .table) ms
+
+-- ---- what is seen of a run: its calls; the table afterwards, as the last one left it; its answers, the newest first
+abbrev pub callsOf : List Made → List Call
+callsOf [] = []
+callsOf (m ∷ ms) = m .call ∷ callsOf ms
+
+abbrev pub tableAfter : Table → List Made → Table
+tableAfter t [] = t
+tableAfter t (m ∷ ms) = tableAfter (m .table) ms
+
+abbrev pub historyAfter : History → List Made → History
+historyAfter h [] = h
+historyAfter h (m ∷ ms) = historyAfter (m .event ∷ h) ms
+
+abbrev pub historyOf : List Made → History
+historyOf ms = historyAfter [] ms
+
+-- ---- a run is split at any call, and put together again: a run of the calls before, the call on the table that they
+-- left, and a run of the rest on the table that it left
+pub record Split (t : Table) (before : List Made) (m : Made) (rest : List Made) : Type 0 where
+  pub earlier : Lent t before
+  pub here : LeftBy (tableAfter t before) m
+  pub later : Lent (m .table) rest
+
+abbrev pub LentSplits : Type 0
+LentSplits = (t : Table) (before : List Made) (m : Made) (rest : List Made)
+    → Lent t (before ++ (m ∷ rest)) ↔ Split t before m rest
+
+-- ---- a call, and calls, as the core makes them
+abbrev pub coreMade : Table → Call → Made
+coreMade t c = record { call = c; event = answered t c; table = next t c; store = left t c; out = outputLeft t c }
+
+abbrev pub coreRun : Table → List Call → List Made
+coreRun t [] = []
+coreRun t (c ∷ cs) = coreMade t c ∷ coreRun (next t c) cs
 
 -- what a call on a lent table answers and leaves is what the core answers and leaves
-pub record AsCore (t : Table) (c : Call) (e : Event) (t′ : Table) (store : Option (List ℕ)) (out : List ℕ)
-    : Type 0 where
-  pub answer : e ≡ answered t c
-  pub table : t′ ≡ next t c
-  pub store-left : store ≡ left t c
-  pub out-left : out ≡ outputLeft t c
-
 abbrev pub LeavesAsCore : Type 0
-LeavesAsCore = (t : Table) (c : Call) (e : Event) (t′ : Table) (store : Option (List ℕ)) (out : List ℕ)
-    → Leaves t c e t′ store out
-    → AsCore t c e t′ store out
+LeavesAsCore = (t : Table) (m : Made) → LeftBy t m → m ≡ coreMade t (m .call)
 
--- every list of calls has such a run, and each is the core's
+-- every list of calls has a run
 abbrev pub LentRuns : Type 0
-LentRuns = (t : Table) (h : History) (cs : List Call) → Lent t h cs (run t cs) (answers t h cs)
+LentRuns = (t : Table) (cs : List Call) → Lent t (coreRun t cs) × (callsOf (coreRun t cs) ≡ cs)
+
+-- and each run is the core's: call by call, in its table afterwards and in its answers
+pub record AsCore (t : Table) (ms : List Made) : Type 0 where
+  pub made : ms ≡ coreRun t (callsOf ms)
+  pub table : tableAfter t ms ≡ run t (callsOf ms)
+  pub history : (h : History) → historyAfter h ms ≡ answers t h (callsOf ms)
 
 abbrev pub LentAsCore : Type 0
-LentAsCore = (t : Table) (h : History) (cs : List Call) (t′ : Table) (h′ : History)
-    → Lent t h cs t′ h′
-    → (t′ ≡ run t cs) × (h′ ≡ answers t h cs)
-
--- demand 3 of a table lent from new: "each answer, and after the list each tag's record, is what document 01 makes of
--- the calls alone"
-pub record LentDemand3 (o : Origin) (cs : List Call) (t′ : Table) (h′ : History) : Type 0 where
-  pub says : h′ ≡ answersOf o cs
-  pub records : (tag : ℕ) → stateAt t′ tag ≡ recordsOf h′ tag
-  pub demand3 : Demand3 o cs
-
-abbrev pub LentDemand3Holds : Type 0
-LentDemand3Holds = (o : Origin) (cs : List Call) (t′ : Table) (h′ : History)
-    → settingsListed (o .settings) ≡ true
-    → Lent (newTable o) [] cs t′ h′
-    → LentDemand3 o cs t′ h′
+LentAsCore = (t : Table) (ms : List Made) → Lent t ms → AsCore t ms

@@ -1,1 +1,2 @@
 pub mod LentRuns
+pub mod LentDemand3
