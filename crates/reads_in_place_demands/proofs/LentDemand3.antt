@@ -5,7 +5,6 @@ use mathlib.Core.Path.{_≡_, refl, ap, sym, _∙_, subst, subst⁻¹}
 use mathlib.Core.Logic.{_↔_}
 use mathlib.Core.Bool.{true}
 use mathlib.Core.List.{List, [], _∷_, _++_}
-use lib.ListN.{length}
 use Rattle.tlp.specs.Settings.{settingsListed}
 use Rattle.reads_rules.specs.declared.request.ReadRequest.{ReadRequest}
 use Rattle.reads_rules.specs.declared.origin.Origin.{Origin}
@@ -37,17 +36,14 @@ items-pieces [] = refl
 items-pieces (other m ∷ is) = items-pieces is
 items-pieces (piece b store m e ∷ is) = ap (λ (bs : List (List ℕ)). b ∷ bs) (items-pieces is)
 
-items-calls : (is : List LentItem) (ds : List Made) → callsOf (madeIn is ++ ds) ≡ calls (itemsOf is) ++ callsOf ds
-items-calls [] ds = refl
-items-calls (other m ∷ is) ds = ap (λ (cs : List Call). m .call ∷ cs) (items-calls is ds)
-items-calls (piece b store m e ∷ is) ds = λ i. e i ∷ items-calls is ds i
+items-calls : (is : List LentItem) → callsOf (madeIn is) ≡ calls (itemsOf is)
+items-calls [] = refl
+items-calls (other m ∷ is) = ap (λ (cs : List Call). m .call ∷ cs) (items-calls is)
+items-calls (piece b store m e ∷ is) = λ i. e i ∷ items-calls is i
 
--- the table after it
-items-table : (t : Table) (is : List LentItem) → Lent t (madeIn is) → tableAfter t (madeIn is) ≡ run t (calls (itemsOf is))
-unfolding run
-items-table t [] l = refl
-items-table t (other m ∷ is) l = items-table (m .table) is (l .1) ∙ (λ i. run (leaves-as-core t m (l .0) i .table) (calls (itemsOf is)))
-items-table t (piece b store m e ∷ is) l = items-table (m .table) is (l .1) ∙ (λ i. run (made-core (l .0) e i .table) (calls (itemsOf is)))
+calls-append : (xs ys : List Made) → callsOf (xs ++ ys) ≡ callsOf xs ++ callsOf ys
+calls-append [] ys = refl
+calls-append (m ∷ xs) ys = ap (λ (cs : List Call). m .call ∷ cs) (calls-append xs ys)
 
 -- what is supposed of it
 items-undisturbed : (tag : ℕ) (t : Table) (is : List LentItem) → Lent t (madeIn is) → LentUndisturbed tag is → Undisturbed tag t (itemsOf is)
@@ -148,12 +144,13 @@ module _ (t : Table) (q : ReadRequest) (tag : ℕ) (store₀ : List ℕ) (mid : 
   stretch-same : LentSameStore q store₀ (madeIn mid ++ (last ∷ [])) → SameStore q t store₀ (calls (itemsOf mid) ++ (taking b store ∷ []))
   stretch-same w =
       let whole = joins t (madeIn mid) last [] (record { earlier = l; here = here; later = tt }) in
-      let cs = items-calls mid (last ∷ []) ∙ ap (λ (c : Call). calls (itemsOf mid) ++ (c ∷ [])) e in
+      let cs = calls-append (madeIn mid) (last ∷ []) ∙ (λ i. items-calls mid i ++ (e i ∷ [])) in
       subst (SameStore q t store₀) cs (same-store q t store₀ (madeIn mid ++ (last ∷ [])) whole w)
 
   stretch-delivered : Delivered q tag t store₀ (itemsOf mid) b store → LentDelivered q tag store₀ mid b store last
   stretch-delivered d =
-      let x = made-core here e ∙ (λ i. coreMade (items-table t mid l i) (taking b store)) in
+      let table = lent-as-core t (madeIn mid) l .table ∙ ap (run t) (items-calls mid) in
+      let x = made-core here e ∙ (λ i. coreMade (table i) (taking b store)) in
       record {
         taken = items-more t mid l (d .taken);
         done = ap (λ (n : Made). n .event) x ∙ ap (takeEvent b store) (d .done);

@@ -4,9 +4,9 @@ use mathlib.Core.Path.{_≡_, refl, ap, _∙_}
 use mathlib.Core.Option.{Option, none, some}
 use mathlib.Core.List.{List, [], _∷_, _++_}
 use Rattle.reads.specs.declared.table.Table.{Table}
-use Rattle.reads_demands.specs.History.{Call, opening, taking, withdrawing, asking, Event, openEvent, takeEvent, withdrawEvent, owedEvent, History}
-use Rattle.reads_demands.specs.Demand3.{next, answered, left, outputLeft, run, answers}
-use Rattle.reads_in_place_demands.specs.LentRuns.{Leaves, opens, takes, withdraws, asks, Made, LeftBy, Lent, callsOf, tableAfter, historyAfter, Split, LentSplits, coreMade, coreRun, AsCore, LeavesAsCore, LentRuns, LentAsCore}
+use Rattle.reads_demands.specs.History.{Call, opening, taking, withdrawing, asking, Event, openEvent, takeEvent, withdrawEvent, owedEvent}
+use Rattle.reads_demands.specs.Demand3.{next, run, answers}
+use Rattle.reads_in_place_demands.specs.LentRuns.{Leaves, opens, takes, withdraws, asks, Made, LeftBy, Lent, callsOf, Split, LentSplits, coreMade, coreRun, LeavesAsCore, LentRuns, LentAsCore}
 
 -- ---- a call
 

@@ -1,7 +1,7 @@
 -- Demand 3 of a lent table, over its own run "from a new table, each call given the table as the last one left it": by
 -- the answers that the run's calls gave, and the tables, stores and outputs that they left. To be believed are this
--- file, LentRuns, and what it takes from History and Demand3 of crate reads_demands, where no table steps: `Harmless`,
--- `SameWindow`, `orLast`, `deliveredByte`, `Ends`, `Outside`. The theorem is `LentDemand3Holds`.
+-- file, LentRuns and, of crate reads_demands, History and what is used here of Demand3: no step of a table is in it.
+-- The theorem is `LentDemand3Holds`, and LentInstance is a run for which its premises hold.
 use Prim.Native.Nat.{ℕ, _+_, _*_, _<_}
 use mathlib.Core.Path.{_≡_}
 use mathlib.Core.Logic.{_≢_, _↔_}
@@ -86,7 +86,7 @@ pub record LentDemand3 (o : Origin) (ms : List Made) : Type 0 where
   -- "each answer, and after the list each tag's record, is what document 01 makes of the calls alone"
   pub says : historyOf ms ≡ answersOf o (callsOf ms)
   pub records : (tag : ℕ) → stateAt (tableAfter (newTable o) ms) tag ≡ recordsOf (historyOf ms) tag
-  -- "both fixed for its life"; the table stays valid, after every run and so before every call
+  -- "both fixed for its life"; the table stays valid, after every run and so, as a run can be split, before every call
   pub origin : tableAfter (newTable o) ms .origin ≡ o
   pub valid : validTable (tableAfter (newTable o) ms) ≡ true
   -- "Let the pieces of any lawful cutting for a read opened in the list stand there after that opening, in address
