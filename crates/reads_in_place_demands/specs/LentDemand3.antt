@@ -1,7 +1,7 @@
 -- Demand 3 of a lent table, over its own run "from a new table, each call given the table as the last one left it": by
 -- the answers that the run's calls gave, and the tables, stores and outputs that they left. To be believed are this
 -- file, LentRuns and, of crate reads_demands, History and what is used here of Demand3: no step of a table is in it.
--- The theorem is `LentDemand3Holds`, and LentInstance is a run for which its premises hold.
+-- The theorem is `LentDemand3Holds`, and LentInstance has runs for which its premises hold.
 use Prim.Native.Nat.{ℕ, _+_, _*_, _<_}
 use mathlib.Core.Path.{_≡_}
 use mathlib.Core.Logic.{_≢_, _↔_}

@@ -1,5 +1,5 @@
--- Delivery on a lent table, worked, so that its premises are seen to hold together: the list of Instance in crate
--- reads_demands as a run. The theorem is a `LentPremises`; no promise cites this file.
+-- Delivery on a lent table, so that its premises are seen to hold together: a list that is worked in Instance of crate
+-- reads_demands, as a run. The theorem is `LentWorkedHold`, proved in proofs/LentInstance; no promise cites this file.
 use mathlib.Core.Path.{_≡_, refl}
 use mathlib.Core.Bool.{true}
 use mathlib.Core.List.{List, [], _∷_, _++_}
@@ -10,8 +10,7 @@ use Rattle.cuttings.specs.Lawful.{lawfulCutting}
 use Rattle.reads_demands.specs.History.{opening, taking}
 use Rattle.reads_demands.specs.Demand3.{next, run, reached, eventNumber, Item, calls}
 use Rattle.reads_demands.specs.Demand3.{other as otherItem, piece as pieceItem}
-use Rattle.reads_demands.specs.Instance.{origin, read, piece₃, storeOf, rest₀, rest₂, out}
-use Rattle.reads_demands.specs.Instance.{list, before, between, afterwards, opened}
+use Rattle.reads_demands.specs.Instance.{Worked, list, opened, Premises}
 use Rattle.reads_in_place_demands.specs.LentRuns.{Made, Lent, coreMade, coreRun}
 use Rattle.reads_in_place_demands.specs.LentDemand3.{LentItem, other, piece, madeIn, piecesIn}
 use Rattle.reads_in_place_demands.specs.LentDemand3.{LentUndisturbed, LentSameStore}
@@ -24,30 +23,34 @@ coreItems t (pieceItem b store ∷ is) =
     piece b store (coreMade t (taking b store)) refl ∷ coreItems (next t (taking b store)) is
 
 -- the run, and its parts: before, opening, the stretch between, last piece and afterwards
-abbrev pub lentRun : List Made
-lentRun = coreRun (newTable origin) list
+abbrev pub lentRun : Worked → List Made
+lentRun w = coreRun (newTable (w .origin)) (list w)
 
-abbrev pub madeBefore : List Made
-madeBefore = coreRun (newTable origin) before
+abbrev pub madeBefore : Worked → List Made
+madeBefore w = coreRun (newTable (w .origin)) (w .before)
 
-abbrev pub opensRead : Made
-opensRead = coreMade (reached origin before) (opening read 5 (storeOf 10 rest₀) out)
+abbrev pub opensRead : Worked → Made
+opensRead w = coreMade (reached (w .origin) (w .before)) (opening (w .read) (w .tag) (w .store₀) (w .out))
 
-abbrev pub stretch : List LentItem
-stretch = coreItems opened between
+abbrev pub stretch : Worked → List LentItem
+stretch w = coreItems (opened w) (w .between)
 
-abbrev pub takesLast : Made
-takesLast = coreMade (run opened (calls between)) (taking piece₃ (storeOf 15 rest₂))
+abbrev pub takesLast : Worked → Made
+takesLast w = coreMade (run (opened w) (calls (w .between))) (taking (w .lastPiece) (w .store))
 
-abbrev pub madeAfterwards : List Made
-madeAfterwards = coreRun (takesLast .table) afterwards
+abbrev pub madeAfterwards : Worked → List Made
+madeAfterwards w = coreRun (takesLast w .table) (w .afterwards)
 
 -- every premise of `delivery` in LentDemand3
-pub record LentPremises : Type 0 where
-  pub listed : settingsListed (origin .settings) ≡ true
-  pub is-lent : Lent (newTable origin) lentRun
-  pub split : lentRun ≡ madeBefore ++ (opensRead ∷ (madeIn stretch ++ (takesLast ∷ madeAfterwards)))
-  pub accepted : eventNumber (opensRead .event) ≡ 0
-  pub lawful : lawfulCutting origin 5 read (piecesIn stretch ++ (piece₃ ∷ [])) ≡ true
-  pub undisturbed : LentUndisturbed 5 stretch
-  pub same : LentSameStore read (storeOf 10 rest₀) (madeIn stretch ++ (takesLast ∷ []))
+pub record LentPremises (w : Worked) : Type 0 where
+  pub listed : settingsListed (w .origin .settings) ≡ true
+  pub is-lent : Lent (newTable (w .origin)) (lentRun w)
+  pub split : lentRun w ≡ madeBefore w ++ (opensRead w ∷ (madeIn (stretch w) ++ (takesLast w ∷ madeAfterwards w)))
+  pub accepted : eventNumber (opensRead w .event) ≡ 0
+  pub lawful : lawfulCutting (w .origin) (w .tag) (w .read) (piecesIn (stretch w) ++ (w .lastPiece ∷ [])) ≡ true
+  pub undisturbed : LentUndisturbed (w .tag) (stretch w)
+  pub same : LentSameStore (w .read) (w .store₀) (madeIn (stretch w) ++ (takesLast w ∷ []))
+
+-- the theorem: so of both lists that Instance has
+abbrev pub LentWorkedHold : Type 0
+LentWorkedHold = (w : Worked) → Premises w → LentPremises w
