@@ -1,4 +1,4 @@
--- Demand 1 of reader and writer: the theorem `Demand1`.
+-- Demand 1 of reader and writer: the theorem `PacketDemand1`.
 use Prim.Native.Nat.{ℕ, zero, suc, _<_}
 use mathlib.Core.Path.{_≡_, refl}
 use mathlib.Core.Bool.{true}
@@ -15,7 +15,7 @@ use Rattle.tlp_read.specs.declared.ReadAnswer.the-variants.{Accepted}
 use Rattle.tlp_write.specs.Layout.{sizeOf, bytesOf}
 use Rattle.tlp_write.specs.Write.{writeRows, writeAnswer, writePacket, writeOut, outAfter, numberOf as writeNumber}
 use Rattle.tlp_write.specs.declared.WriteAnswer.the-variants.{Written}
-use Rattle.tlp_demands.specs.Demand1.{ByRows, ReadExactly, WriteExactly, Demand1}
+use Rattle.tlp_demands.specs.Demand1.{ByRows, ReadExactly, WriteExactly, PacketDemand1}
 
 pub by-rows : (rows : List Row) (n : ℕ) → numbered rows ≡ true → n ≡ first rows → ByRows n rows
 by-rows rows n k e = record {
@@ -72,5 +72,5 @@ write-exactly settings p payload out =
       written = out-written (first rows) (sizeOf p) (bytesOf p payload) out;
     }
 
-pub demand1 : Demand1
-demand1 = record { reads = read-exactly; writes = write-exactly }
+pub packet-demand1 : PacketDemand1
+packet-demand1 = record { reads = read-exactly; writes = write-exactly }

@@ -1,6 +1,6 @@
 -- Demand 1 of reader and writer: "A refusal comes exactly when the documents list its fault and carries the number fixed
 -- there, and the table, the store and every lent output stay as they were." To be believed is all of this file; the
--- theorem is a `Demand1`, proved in proofs/Demand1.antt.
+-- theorem is a `PacketDemand1`, proved in proofs/Demand1.antt.
 use Prim.Native.Nat.{ℕ, _<_}
 use mathlib.Core.Path.{_≡_}
 use mathlib.Core.Logic.{_↔_}
@@ -41,6 +41,6 @@ pub record WriteExactly (settings : Settings) (p : Packet) (payload out : List �
   pub written : writeNumber (writePacket settings p (length payload) (length out)) ≡ 0
       → writeOut settings p payload out ≡ overFront (bytesOf p payload) out
 
-pub record Demand1 : Type 0 where
+pub record PacketDemand1 : Type 0 where
   pub reads : (settings : Settings) (packet : List ℕ) → ReadExactly settings packet
   pub writes : (settings : Settings) (p : Packet) (payload out : List ℕ) → WriteExactly settings p payload out
