@@ -24,7 +24,8 @@ use Rattle.tlp_record_write.specs.RecordWrite.{recordOut}
 use Rattle.tlp_c.specs.Calls.{writeNumber, writtenSize}
 use Rattle.tlp_demands.specs.Demand1.{ByRows}
 
--- ---- demand 1
+-- ---- demand 1: "A refusal comes exactly when the documents list its fault and carries the number fixed there, and ..
+-- every lent output stay as they were."
 
 -- tollpebble_read's list: the reader's, and last 12 where the record that is lent is too short
 abbrev pub exportedReadRows : Settings → List ℕ → ℕ → List Row

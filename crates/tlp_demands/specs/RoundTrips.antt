@@ -1,7 +1,5 @@
--- Demand 2: "Writing then reading gives the same packet; reading then writing gives the same bytes with reserved bits
--- cleared." Document 01: "Reserved bits are ignored on reading and zero on writing." All over the output that a caller
--- holds. A reader must believe the four statements; they are proved in proofs/RoundTrips.antt and
--- proofs/ReservedIgnored.antt.
+-- Demand 2's two trips, and document 01's sentence on reserved bits, over the output that a caller holds. A reader must
+-- believe the four statements; they are proved in proofs/RoundTrips.antt and proofs/ReservedIgnored.antt.
 use Prim.Native.Nat.{ℕ, _≤_}
 use mathlib.Core.Path.{_≡_}
 use mathlib.Core.List.{List}
@@ -16,8 +14,8 @@ use Rattle.tlp_read.specs.declared.ReadAnswer.the-variants.{Accepted}
 use Rattle.tlp_write.specs.Write.{writePacket, writeOut}
 use Rattle.tlp_write.specs.declared.WriteAnswer.the-variants.{Written}
 
--- Where writing into an output is accepted, reading as many of its bytes as were written, with the same settings, gives
--- the same packet, and its payload is the one that was lent.
+-- "Writing then reading gives the same packet": where writing into an output is accepted, reading as many of its bytes
+-- as were written, with the same settings, gives the same packet, and its payload is the one that was lent.
 abbrev pub WriteThenRead : Type 0
 WriteThenRead =
     (settings : Settings) (p : Packet) (payload out : List ℕ) (size : ℕ)
@@ -25,8 +23,9 @@ WriteThenRead =
     → (readPacket settings (take size (writeOut settings p payload out)) ≡ Accepted p)
     × (payloadOf p (take size (writeOut settings p payload out)) ≡ payload)
 
--- Where bytes are read, writing that packet with the payload in them into any output with room, with the same settings,
--- is accepted: the output is then the bytes with reserved bits cleared, and the rest of it as it was.
+-- "reading then writing gives the same bytes with reserved bits cleared": where bytes are read, writing that packet with
+-- the payload in them into any output with room, with the same settings, is accepted. The output is then the bytes with
+-- reserved bits cleared, and the rest of it as it was.
 abbrev pub ReadThenWrite : Type 0
 ReadThenWrite =
     (settings : Settings) (packet : List ℕ) (p : Packet) (out : List ℕ)
@@ -36,7 +35,7 @@ ReadThenWrite =
     → (writePacket settings p (length (payloadOf p packet)) (length out) ≡ Written (length packet))
     × (writeOut settings p (payloadOf p packet) out ≡ overFront (clearReserved packet) out)
 
--- Whatever is written has its reserved bits zero, whether it was read before or not.
+-- "Reserved bits are .. zero on writing": in whatever is written, read before or not.
 abbrev pub ReservedZero : Type 0
 ReservedZero =
     (settings : Settings) (p : Packet) (payload out : List ℕ) (size : ℕ)
@@ -44,7 +43,8 @@ ReservedZero =
     → writePacket settings p (length payload) (length out) ≡ Written size
     → clearReserved (take size (writeOut settings p payload out)) ≡ take size (writeOut settings p payload out)
 
--- Bytes with their reserved bits cleared read as the bytes themselves do, accepted or refused.
+-- "Reserved bits are ignored on reading": bytes with their reserved bits cleared read as the bytes themselves do,
+-- accepted or refused.
 abbrev pub ReservedIgnored : Type 0
 ReservedIgnored =
     (settings : Settings) (packet : List ℕ)
