@@ -14,6 +14,7 @@ use Rattle.bits.specs.Choice.{pick}
 use Rattle.bits.specs.Put.{put}
 use Rattle.text.specs.Laid.{laid, after}
 use Rattle.text.specs.Number.{countTo, digitCount, plainText}
+use Rattle.text.specs.Words.{part}
 use Rattle.text.proofs.PutLaws.{put-done, put-first}
 use Rattle.text.proofs.NumberLaws.{length-digits}
 use Rattle.text.proofs.Bounds.{length-laid}
@@ -80,10 +81,13 @@ laid-nothing at out = rw (put-done at out) (nothing-by (leb (at + 0) (length out
 
 -- ---- the text that was laid at the front of a line
 
+pub front-put : (text out : List ℕ) → part (put 0 text out) 0 (length text) ≡ text
+unfolding put
+front-put text out = rw (zero-add (length text), sub-zero (length text)) (take-append-seam text (drop (length text) out))
+
 -- what the front of the line l holds afterwards, up to the index n after it
 pub front-laid : (text l₀ l : List ℕ) (n : ℕ) → 0 + length text ≤ length l₀ → n ≡ after 0 text l₀ → l ≡ laid 0 text l₀ → take (n - 0) (drop 0 l) ≡ text
-unfolding put
-front-laid text l₀ l n h e f = rw (e, f, after-fits 0 text l₀ h, laid-fits 0 text l₀ h, zero-add (length text), sub-zero (length text)) (take-append-seam text (drop (length text) l₀))
+front-laid text l₀ l n h e f = rw (e, f, after-fits 0 text l₀ h, laid-fits 0 text l₀ h, zero-add (length text)) (front-put text l₀)
 
 -- that text laid into an output, by way of the part w of the line
 module _ (text l₀ l : List ℕ) (n : ℕ) (h : 0 + length text ≤ length l₀) (e : n ≡ after 0 text l₀) (f : l ≡ laid 0 text l₀) (w : List ℕ) (g : w ≡ take (n - 0) (drop 0 l)) (at : ℕ) (out : List ℕ) where
