@@ -83,6 +83,12 @@ run-ahead (block ∷ blocks) p rest lines refused n =
     ∙ sym (step-bytes p (rest ++ block) (joined blocks) lines refused)
     ∙ ap (bytesAhead p lines refused) (append-assoc rest block (joined blocks))
 
+-- after a bad first line nothing more is printed
+pub refused-run : (blocks : List (List ℕ)) (rest : List ℕ) (lines refused : ℕ) → runFrom Refused rest lines refused blocks ≡ []
+unfolding runFrom stepOf lastText endOf totalsFollow
+refused-run [] rest lines refused = refl
+refused-run (block ∷ blocks) rest lines refused = refused-run blocks _ _ _
+
 -- ---- what is to come of a whole input is its decoding
 
 header-decoded : (h : HeaderLine) (texts : List (List ℕ)) (tail : List ℕ) → headerAhead h 0 0 texts tail ≡ headerDecoded h texts tail

@@ -6,3 +6,4 @@ pub mod LineAtLaws
 pub mod StepReturns
 pub mod CallReturns
 pub mod StepBounds
+pub mod RoomAnswers

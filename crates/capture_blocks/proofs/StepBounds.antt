@@ -38,11 +38,11 @@ decoded-refused c (text ∷ texts) d h = omega (arith, decoded-refused c texts d
 -- ---- a stepping
 
 -- over so many bytes: no more lines than most, with the bytes that it leaves
-record Bounded (size most : ℕ) (stepping : Stepping) : Type 0 where
-  few : stepping .decoding .lines + stepping .left ≤ most
-  fewer : stepping .decoding .refused ≤ stepping .decoding .lines
-  short : stepping .left ≤ textMost
-  inside : stepping .left ≤ size
+pub record Bounded (size most : ℕ) (stepping : Stepping) : Type 0 where
+  pub few : stepping .decoding .lines + stepping .left ≤ most
+  pub fewer : stepping .decoding .refused ≤ stepping .decoding .lines
+  pub short : stepping .left ≤ textMost
+  pub inside : stepping .left ≤ size
 
 -- no line, and nothing left
 no-lines : (size most : ℕ) (p : Progress) (text : List ℕ) → Bounded size most (record { progress = p; decoding = record { output = text; lines = 0; refused = 0 }; left = 0 })
@@ -79,7 +79,7 @@ module _ (size : ℕ) (tail : List ℕ) where
   from-bounded (Skipping c) (rest ∷ texts) h = lines-bounded c texts (omega (arith, h))
   from-bounded Refused texts h = no-lines size size Refused []
 
-step-bounded : (p : Progress) (bytes : List ℕ) → Bounded (length bytes) (length bytes) (stepOf p bytes)
+pub step-bounded : (p : Progress) (bytes : List ℕ) → Bounded (length bytes) (length bytes) (stepOf p bytes)
 unfolding stepOf
 step-bounded p bytes = from-bounded (length bytes) (unended bytes) p (completeLines bytes) (complete-le bytes)
 
@@ -88,7 +88,7 @@ unfolding tailDecoded
 tail-bounded size p [] = no-lines size 1 p []
 tail-bounded size p (b ∷ rest) = record { few = omega arith; fewer = omega arith; short = omega arith; inside = omega arith }
 
-end-bounded : (p : Progress) (rest : List ℕ) → Bounded (length rest) 1 (ending p rest)
+pub end-bounded : (p : Progress) (rest : List ℕ) → Bounded (length rest) 1 (ending p rest)
 unfolding endOf
 end-bounded First rest = no-lines (length rest) 1 First (codeLine 11)
 end-bounded (Lines c) rest = tail-bounded (length rest) (Lines c) rest
@@ -105,9 +105,6 @@ module _ (step : Step) (size most : ℕ) (v : Stepping) (g : Bounded size most v
   used-le : step .used ≤ size
   used-le = rw e (omega arith)
 
-  left-le : size - step .used ≤ textMost
-  left-le = rw e (omega (arith, g .short, g .inside))
-
   lines-le : step .lines ≤ most
   lines-le = rw e (omega (arith, g .few))
 
@@ -122,12 +119,6 @@ module _ (p : Progress) (bytes out : List ℕ) (r : BlockAnswer) (d : r ≡ step
 
   pub block-used : step .used ≤ length bytes
   block-used = used-le step (length bytes) (length bytes) (stepOf p bytes) (step-bounded p bytes) block-step
-
-  pub block-left : length bytes - step .used ≤ textMost
-  block-left = left-le step (length bytes) (length bytes) (stepOf p bytes) (step-bounded p bytes) block-step
-
-  pub block-lines : step .lines ≤ length bytes
-  block-lines = lines-le step (length bytes) (length bytes) (stepOf p bytes) (step-bounded p bytes) block-step
 
   pub block-refused : step .refused ≤ step .lines
   block-refused = refused-le step (length bytes) (length bytes) (stepOf p bytes) (step-bounded p bytes) block-step
