@@ -1,5 +1,6 @@
 // Decodes a capture: standard input to standard output.
 mod run;
+mod step;
 mod turn;
 
 use crate::run::first_run;

@@ -2,8 +2,8 @@
 use capture_blocks::Progress;
 use capture_blocks::Step;
 ghost use mathlib.Core.Path.{_≡_};
-ghost use Rattle.capture_lines.specs.Lines.{textMost};
-ghost use Prim.Native.Nat.{_+_, _≤_};
+ghost use Prim.Native.Nat.{_≤_};
+ghost use Rattle.decode.specs.Turns.{firstRun, endedRun, stoppedRun, goesOn, advancedRun};
 ghost use Rattle.decode.specs.Inner.Sizes.{inputRoom, linesMost};
 
 pub(crate) struct Run {
@@ -19,7 +19,7 @@ pub(crate) struct Run {
 
 // Before the first byte.
 pub(crate) fn first_run() -> Run
-    ensures { λ r. ⌜ (r .kept ≡ 0) × ((r .lines ≡ 0) × (r .refused ≡ 0)) ⌝ }
+    ensures { λ r. ⌜ r ≡ firstRun ⌝ }
 {
     Run {
         progress: Progress::First,
@@ -32,7 +32,7 @@ pub(crate) fn first_run() -> Run
 
 // At the end of the input: the kept bytes are still to be decoded.
 pub(crate) fn ended(run: Run) -> Run
-    ensures { λ r. ⌜ (r .kept ≡ run .kept) × ((r .lines ≡ run .lines) × (r .refused ≡ run .refused)) ⌝ }
+    ensures { λ r. ⌜ r ≡ endedRun run ⌝ }
 {
     let progress = run.progress;
     Run {
@@ -46,7 +46,7 @@ pub(crate) fn ended(run: Run) -> Run
 
 // After a failure: nothing more is read or printed.
 pub(crate) fn stopped() -> Run
-    ensures { λ r. ⌜ (r .kept ≡ 0) × ((r .lines ≡ 0) × (r .refused ≡ 0)) ⌝ }
+    ensures { λ r. ⌜ r ≡ stoppedRun ⌝ }
 {
     Run {
         progress: Progress::Refused,
@@ -58,7 +58,9 @@ pub(crate) fn stopped() -> Run
 }
 
 // Whether what follows can print anything: not after a bad first line.
-fn goes_on(progress: Progress) -> bool {
+fn goes_on(progress: Progress) -> bool
+    ensures { λ r. ⌜ r ≡ goesOn progress ⌝ }
+{
     match progress {
         Progress::First => true,
         Progress::Lines(settings) => true,
@@ -69,12 +71,11 @@ fn goes_on(progress: Progress) -> bool {
 
 // After a step that left so many bytes.
 pub(crate) fn advanced(run: Run, step: Step, kept: usize) -> Run
-    requires { ⌜ kept ≤ textMost ⌝ }
     requires { ⌜ run .lines ≤ linesMost ⌝ }
     requires { ⌜ step .lines ≤ inputRoom ⌝ }
     requires { ⌜ run .refused ≤ run .lines ⌝ }
     requires { ⌜ step .refused ≤ step .lines ⌝ }
-    ensures { λ r. ⌜ (r .kept ≤ textMost) × ((r .lines ≤ run .lines + inputRoom) × (r .refused ≤ r .lines)) ⌝ }
+    ensures { λ r. ⌜ r ≡ advancedRun run (step .progress) kept (step .lines) (step .refused) ⌝ }
 {
     let progress = step.progress;
     Run {

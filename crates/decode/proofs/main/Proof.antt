@@ -1,14 +1,21 @@
+use native.Mathlib.Omega.{arith}
+use Rattle.decode.specs.declared.run.Run.{Run}
+use Rattle.decode.proofs.TurnLaws.{first-counted, reached-first, reached-next}
 use borrow.Author.Needs.{needs}
-use Prim.Native.Nat.{_+_, _*_, _≤_}
-use mathlib.Core.Path.{_≡_}
+use Prim.Native.Nat.{_+_, _*_, _≤_, _<_}
+use mathlib.Core.Path.{_≡_, ap}
+use mathlib.Core.Bool.{true}
 use lib.ListN.{length}
-use Rattle.capture_lines.specs.Lines.{textMost}
 use Rattle.decode.proofs.main.Statement.{statement}
 use Rattle.decode.proofs.main.Tie as tie
-use Rattle.decode.specs.Inner.Sizes.{inputRoom, outputRoom, linesMost}
+use Rattle.decode.specs.Turns.{stageIn, Reached}
+use Rattle.decode.specs.Inner.Sizes.{inputRoom, outputRoom, linesMost, Counted}
 
 abbrev Inv-loop : tie.InvT-loop
-Inv-loop buf₀ out₀ run₀ turns₀ buf out run turns = (length buf ≡ inputRoom) × ((length out ≡ outputRoom) × ((run .kept ≤ textMost) × ((run .lines + inputRoom * turns ≤ linesMost) × (run .refused ≤ run .lines))))
+Inv-loop buf₀ out₀ run₀ turns₀ buf out run turns =
+    (length buf ≡ inputRoom)
+    × ((length out ≡ outputRoom)
+    × ((run .lines + inputRoom * turns ≤ linesMost) × (Counted linesMost run × ((0 < turns → run .more ≡ true) × Reached (stageIn run buf)))))
 
 abbrev μ-loop : tie.MeasureT-loop
 μ-loop buf₀ out₀ run₀ turns₀ buf out run turns = turns
@@ -23,7 +30,10 @@ first-run-requires : tie.Need-first-run-requires Inv-loop μ-loop
 first-run-requires c κs = search needs
 
 loop-holds : tie.Need-loop-holds Inv-loop μ-loop
-loop-holds c = search needs
+loop-holds c =
+    let first = c .first-run in
+    let lines : first .result .lines ≡ 0 = ap (λ (r : Run). r .lines) (first .ensures) in
+    (search needs, (search needs, (omega arith, (first-counted linesMost (first .result) (first .ensures), (λ _. ap (λ (r : Run). r .more) (first .ensures), reached-first (first .result) _ (first .ensures))))))
 
 slice-aggregate-take-turn : tie.Need-slice-aggregate-take-turn Inv-loop μ-loop
 slice-aggregate-take-turn c = search needs
@@ -41,13 +51,21 @@ loop-less : tie.Need-loop-less Inv-loop μ-loop
 loop-less c = search needs
 
 loop-again : tie.Need-loop-again Inv-loop μ-loop
-loop-again c = search needs
+loop-again c =
+    let at = c .before .before .before .before .before .before .before .loop in
+    let turn = c .before .before .before .take-turn in
+    let counted : Counted linesMost (turn .result) = record { kept = turn .ensures .1 .kept; lines = omega arith; refused = turn .ensures .1 .refused } in
+    (search needs, (search needs, (omega arith, (counted, (λ _. c .if1 .taken, reached-next _ _ (at .inv .1 .1 .1 .1 .1) (at .inv .1 .1 .1 .1 .0 (c .before .before .before .before .before .before .loop-test .taken)) (turn .ensures .0))))))
 
 loop-less-2 : tie.Need-loop-less-2 Inv-loop μ-loop
 loop-less-2 c = search needs
 
 loop-again-2 : tie.Need-loop-again-2 Inv-loop μ-loop
-loop-again-2 c = search needs
+loop-again-2 c =
+    let at = c .before .before .before .before .before .before .before .loop in
+    let turn = c .before .before .before .take-turn in
+    let counted : Counted linesMost (turn .result) = record { kept = turn .ensures .1 .kept; lines = omega arith; refused = turn .ensures .1 .refused } in
+    (search needs, (search needs, (omega arith, (counted, (λ (h : 0 < 0). absurd (omega (arith, h)), reached-next _ _ (at .inv .1 .1 .1 .1 .1) (at .inv .1 .1 .1 .1 .0 (c .before .before .before .before .before .before .loop-test .taken)) (turn .ensures .0))))))
 
 slice-aggregate-finish : tie.Need-slice-aggregate-finish Inv-loop μ-loop
 slice-aggregate-finish c = search needs

@@ -1,5 +1,7 @@
--- For the contracts of this program's own functions: how much it takes at once.
-use Prim.Native.Nat.{ℕ}
+-- For the contracts of this program's own functions: how much it takes at once, and how large its numbers get.
+use Prim.Native.Nat.{ℕ, _≤_}
+use Rattle.capture_lines.specs.Lines.{textMost}
+use Rattle.decode.specs.declared.run.Run.{Run}
 
 -- the bytes of the input's buffer, and so the most lines of a step
 abbrev pub inputRoom : ℕ
@@ -12,3 +14,9 @@ outputRoom = 524288
 -- no run counts more lines before its last step
 abbrev pub linesMost : ℕ
 linesMost = 9223372036854775808
+
+-- a run that keeps no more than a line, and counts so many lines at most
+pub record Counted (most : ℕ) (run : Run) : Type 0 where
+  pub kept : run .kept ≤ textMost
+  pub lines : run .lines ≤ most
+  pub refused : run .refused ≤ run .lines

@@ -1,10 +1,7 @@
-use Rattle.decode.proofs.Laws.{end-laws}
+use Rattle.decode.proofs.StepLaws.{end-laws}
 use borrow.Author.Needs.{needs}
-use Rattle.decode.proofs.turn.finish.Statement.{statement}
-use Rattle.decode.proofs.turn.finish.Tie as tie
-
-part-requires : tie.Need-part-requires
-part-requires c κs = search needs
+use Rattle.decode.proofs.step.lay_end.Statement.{statement}
+use Rattle.decode.proofs.step.lay_end.Tie as tie
 
 decode-end-requires : tie.Need-decode-end-requires
 decode-end-requires c κs = search needs
@@ -16,37 +13,32 @@ enum-known-answer-2 : tie.Need-enum-known-answer-2
 enum-known-answer-2 c = search needs
 
 advanced-requires : tie.Need-advanced-requires
-advanced-requires c κs = (search needs, (search needs, (search end-laws depth 12 fits 4000, (search needs, search end-laws depth 12 fits 4000))))
+advanced-requires c κs = (search needs, (search end-laws depth 12 fits 4000, (search needs, search end-laws depth 12 fits 4000)))
 
 put-totals-of-requires : tie.Need-put-totals-of-requires
 put-totals-of-requires c κs = search needs
-
-print-requires : tie.Need-print-requires
-print-requires c κs = search needs
 
 same-length : tie.Need-same-length
 same-length c = search needs
 
 returns : tie.Need-returns
-returns c = search needs
+returns c = absurd (search end-laws depth 12 fits 4000)
 
 same-length-2 : tie.Need-same-length-2
 same-length-2 c = search needs
 
 returns-2 : tie.Need-returns-2
-returns-2 c = search needs
+returns-2 c = search end-laws depth 12 fits 4000
 
-pub finish-spec : {M : Type 1} → statement M
-finish-spec =
+pub lay-end-spec : {M : Type 1} → statement M
+lay-end-spec =
     tie.close
     (tie.spec
-    part-requires
     decode-end-requires
     enum-known-answer
     enum-known-answer-2
     advanced-requires
     put-totals-of-requires
-    print-requires
     same-length
     returns
     same-length-2

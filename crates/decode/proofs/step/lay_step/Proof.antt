@@ -1,7 +1,7 @@
-use Rattle.decode.proofs.Laws.{step-laws}
+use Rattle.decode.proofs.StepLaws.{step-laws}
 use borrow.Author.Needs.{needs}
-use Rattle.decode.proofs.turn.take_step.Statement.{statement}
-use Rattle.decode.proofs.turn.take_step.Tie as tie
+use Rattle.decode.proofs.step.lay_step.Statement.{statement}
+use Rattle.decode.proofs.step.lay_step.Tie as tie
 
 sub-decode-block : tie.Need-sub-decode-block
 sub-decode-block c = search needs
@@ -24,11 +24,14 @@ stopped-requires c κs = search needs
 enum-known-answer-2 : tie.Need-enum-known-answer-2
 enum-known-answer-2 c = search needs
 
-print-requires : tie.Need-print-requires
-print-requires c κs = search needs
+move-to-front-requires : tie.Need-move-to-front-requires
+move-to-front-requires c κs = search needs
 
-stopped-requires-2 : tie.Need-stopped-requires-2
-stopped-requires-2 c κs = search needs
+sub-advanced : tie.Need-sub-advanced
+sub-advanced c = search step-laws depth 12 fits 4000
+
+advanced-requires : tie.Need-advanced-requires
+advanced-requires c κs = (search needs, (search step-laws depth 12 fits 4000, (search needs, search step-laws depth 12 fits 4000)))
 
 same-length : tie.Need-same-length
 same-length c = search needs
@@ -37,16 +40,7 @@ same-length-2 : tie.Need-same-length-2
 same-length-2 c = search needs
 
 returns : tie.Need-returns
-returns c = search needs
-
-move-to-front-requires : tie.Need-move-to-front-requires
-move-to-front-requires c κs = search needs
-
-sub-advanced : tie.Need-sub-advanced
-sub-advanced c = search step-laws depth 12 fits 4000
-
-advanced-requires : tie.Need-advanced-requires
-advanced-requires c κs = (search step-laws depth 12 fits 4000, (search needs, (search step-laws depth 12 fits 4000, (search needs, search step-laws depth 12 fits 4000))))
+returns c = absurd (search step-laws depth 12 fits 4000)
 
 same-length-3 : tie.Need-same-length-3
 same-length-3 c = search needs
@@ -55,19 +49,12 @@ same-length-4 : tie.Need-same-length-4
 same-length-4 c = search needs
 
 returns-2 : tie.Need-returns-2
-returns-2 c = search needs
+returns-2 c =
+    let pre = c .before .before .before .before .before .before .before .before .before .before .before .before .before .before .before .before .before .pre in
+    (search step-laws depth 12 fits 4000, (search step-laws depth 12 fits 4000, search step-laws depth 12 fits 4000))
 
-same-length-5 : tie.Need-same-length-5
-same-length-5 c = search needs
-
-same-length-6 : tie.Need-same-length-6
-same-length-6 c = search needs
-
-returns-3 : tie.Need-returns-3
-returns-3 c = search needs
-
-pub take-step-spec : {M : Type 1} → statement M
-take-step-spec =
+pub lay-step-spec : {M : Type 1} → statement M
+lay-step-spec =
     tie.close
     (tie.spec
     sub-decode-block
@@ -77,17 +64,12 @@ take-step-spec =
     enum-known-answer
     stopped-requires
     enum-known-answer-2
-    print-requires
-    stopped-requires-2
-    same-length
-    same-length-2
-    returns
     move-to-front-requires
     sub-advanced
     advanced-requires
+    same-length
+    same-length-2
+    returns
     same-length-3
     same-length-4
-    returns-2
-    same-length-5
-    same-length-6
-    returns-3)
+    returns-2)

@@ -1,0 +1,143 @@
+-- What the program does, turn by turn: each turn reads once, behind the bytes that are kept, decodes and prints. What a
+-- reader must believe: all of it. That the printed text is the decoding of the input is the theorem PrintsDecoding.
+use Prim.Native.Nat.{ℕ, suc, _+_, _-_}
+use mathlib.Core.Path.{_≡_}
+use mathlib.Core.Bool.{Bool, true, false}
+use mathlib.Core.List.{List, [], _∷_, _++_}
+use lib.IntN.{ℤ, pos, negsuc}
+use lib.ListN.{length, drop}
+use Rattle.bits.specs.Choice.{pick}
+use Rattle.text.specs.Words.{part}
+use Rattle.capture_blocks.specs.Blocks.{stepOf, endOf, lastText}
+use Rattle.capture_blocks.specs.declared.Progress.{Progress}
+use Rattle.capture_blocks.specs.declared.Progress.the-variants.{First, Lines, Skipping, Refused}
+use Rattle.decode.specs.declared.run.Run.{Run}
+
+-- ---- a run
+
+-- before the first byte
+abbrev pub firstRun : Run
+firstRun = record { progress = First; kept = 0; lines = 0; refused = 0; more = true }
+
+-- at the end of the input
+abbrev pub endedRun : Run → Run
+endedRun run = record {
+  progress = run .progress;
+  kept = run .kept;
+  lines = run .lines;
+  refused = run .refused;
+  more = false;
+}
+
+-- after a read or a write that failed: nothing more is printed
+abbrev pub stoppedRun : Run
+stoppedRun = record { progress = Refused; kept = 0; lines = 0; refused = 0; more = false }
+
+-- whether what follows can print anything: not after a bad first line
+abbrev pub goesOn : Progress → Bool
+goesOn First = true
+goesOn (Lines settings) = true
+goesOn (Skipping settings) = true
+goesOn Refused = false
+
+-- so many lines and refused lines more
+abbrev pub advancedRun : Run → Progress → ℕ → ℕ → ℕ → Run
+advancedRun run progress kept lines refused = record {
+  progress = progress;
+  kept = kept;
+  lines = run .lines + lines;
+  refused = run .refused + refused;
+  more = goesOn progress;
+}
+
+-- ---- a step over the kept bytes with a block behind them
+
+unfoldable pub afterStep : Run → List ℕ → Run
+afterStep run bytes =
+    let stepping = stepOf (run .progress) bytes in
+    advancedRun run (stepping .progress) (stepping .left) (stepping .decoding .lines) (stepping .decoding .refused)
+
+-- the bytes of a line that is not complete
+unfoldable pub keptBytes : Progress → List ℕ → List ℕ
+keptBytes progress bytes = drop (length bytes - stepOf progress bytes .left) bytes
+
+-- what is printed for it
+unfoldable pub stepText : Progress → List ℕ → List ℕ
+stepText progress bytes = stepOf progress bytes .decoding .output
+
+-- what is printed at the end: what the kept bytes give, and the totals
+unfoldable pub endText : Run → List ℕ → List ℕ
+endText run kept = lastText (run .progress) (endOf (run .progress) kept) (run .lines) (run .refused)
+
+-- ---- the turns
+
+-- where the program stands: its run, and the bytes that it keeps
+pub record Stage : Type 0 where
+  pub run : Run
+  pub kept : List ℕ
+
+-- the kept bytes stand at the front of the buffer
+abbrev pub stageIn : Run → List ℕ → Stage
+stageIn run buf = record { run = run; kept = part buf 0 (run .kept) }
+
+abbrev pub firstStage : Stage
+firstStage = record { run = firstRun; kept = [] }
+
+abbrev pub endedStage : Stage → Stage
+endedStage stage = record { run = endedRun (stage .run); kept = stage .kept }
+
+abbrev pub stoppedStage : Stage
+stoppedStage = record { run = stoppedRun; kept = [] }
+
+-- a block was read
+abbrev pub nextStage : Stage → List ℕ → Stage
+nextStage stage block = record {
+  run = afterStep (stage .run) (stage .kept ++ block);
+  kept = keptBytes (stage .run .progress) (stage .kept ++ block);
+}
+
+-- these blocks were read, one a turn: no more than are asked for
+unfoldable pub stageAfter : Stage → List (List ℕ) → Stage
+stageAfter stage [] = stage
+stageAfter stage (block ∷ blocks) = pick (stage .run .more) (stageAfter (nextStage stage block) blocks) stage
+
+-- what is printed on the way
+unfoldable pub textAfter : Stage → List (List ℕ) → List ℕ
+textAfter stage [] = []
+textAfter stage (block ∷ blocks) =
+    pick (stage .run .more)
+    (stepText (stage .run .progress) (stage .kept ++ block) ++ textAfter (nextStage stage block) blocks)
+    []
+
+-- what is printed when read gives these blocks in turn, and then the end of the input
+unfoldable pub printed : List (List ℕ) → List ℕ
+printed blocks =
+    let last = stageAfter firstStage blocks in
+    textAfter firstStage blocks ++ endText (last .run) (last .kept)
+
+-- ---- what the system's calls decide
+
+-- how many bytes a read laid, as it answered
+abbrev pub countOf : ℤ → ℕ
+countOf (pos n) = n
+countOf (negsuc n) = 0
+
+-- the stage after a turn, by what read answered: it failed; the input is at its end; it gave a block, which was decoded
+-- and printed; or the write of what the block gave failed
+pub data Turned (stage : Stage) (block : List ℕ) : ℤ → Stage → Type 0 where
+  failed : (n : ℕ) → Turned stage block (negsuc n) stoppedStage
+  ended : Turned stage block (pos 0) (endedStage stage)
+  stepped : (n : ℕ) → Turned stage block (pos (suc n)) (nextStage stage block)
+  unwritten : (n : ℕ) → Turned stage block (pos (suc n)) stoppedStage
+
+-- a turn of which nothing is known but that the system answered, and what it laid
+pub record Turn (stage after : Stage) : Type 0 where
+  pub answered : ℤ
+  pub block : List ℕ
+  pub turned : Turned stage block answered after
+
+-- where the program can stand: it read some blocks, and perhaps came to the end of the input; or a call failed
+pub data Reached (stage : Stage) : Type 0 where
+  reading : (blocks : List (List ℕ)) → stage ≡ stageAfter firstStage blocks → Reached stage
+  done : (blocks : List (List ℕ)) → stage ≡ endedStage (stageAfter firstStage blocks) → Reached stage
+  stopped : stage ≡ stoppedStage → Reached stage
