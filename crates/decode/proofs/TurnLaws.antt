@@ -18,8 +18,8 @@ use Rattle.bits.specs.Choice.{pick}
 use Rattle.text.specs.Words.{part}
 use Rattle.io.specs.Counts.{clamped}
 use Rattle.libc.specs.Io.{Moved}
-use Rattle.decode.specs.Turns.{firstRun, endedRun, stoppedRun, afterStep, keptBytes, Stage, stageIn, firstStage, endedStage, stoppedStage, nextStage, stageAfter, countOf, Turned, Turn, Reached}
-use Rattle.decode.specs.Turns.{failed, ended, stepped, unwritten, reading, done, stopped}
+use Rattle.decode.specs.Turns.{firstRun, endedRun, stoppedRun, afterStep, keptBytes, stepText, endText, Stage, stageIn, firstStage, endedStage, stoppedStage, nextStage, stageAfter, countOf, Turned, Turn, Reached, Prints}
+use Rattle.decode.specs.Turns.{failed, ended, stepped, unwritten, reading, done, stopped, step, end}
 use Rattle.decode.specs.Inner.Sizes.{inputRoom, Counted}
 use Rattle.decode.specs.declared.run.Run.{Run}
 use Rattle.decode.proofs.StepLaws.{size-of, after-counted}
@@ -51,38 +51,41 @@ count-by (negsuc k) len kept n got m e g = omega (arith, e, g)
 
 -- ---- take_read
 
-module _ (stage : Stage) (block : List ℕ) (z : ℤ) (fit : SFits w64 z) (r : Run) (buf : List ℕ) where
-  sign : (b : Bool) → ltZ (toZ w64 (ofZ w64 z)) (pos 0) ≡ b → ltZ z (pos 0) ≡ b
-  sign b e = rw (toZ-ofZ fit) at e
+sign : (z : ℤ) → SFits w64 z → (b : Bool) → ltZ (toZ w64 (ofZ w64 z)) (pos 0) ≡ b → ltZ z (pos 0) ≡ b
+sign z fit b e = rw (toZ-ofZ fit) at e
 
-  pub turn-failed : ltZ (toZ w64 (ofZ w64 z)) (pos 0) ≡ true → r ≡ stoppedRun → Turned stage block z (stageIn r buf)
-  turn-failed n e = rw e (failed-by stage block z (sign true n))
+pub turn-failed : (stage : Stage) (block : List ℕ) (z : ℤ) → SFits w64 z → (r : Run) (buf : List ℕ) → ltZ (toZ w64 (ofZ w64 z)) (pos 0) ≡ true → r ≡ stoppedRun → Turned stage block z (stageIn r buf)
+turn-failed stage block z fit r buf n e = rw e (failed-by stage block z (sign z fit true n))
 
-  pub turn-unwritten : ltZ (toZ w64 (ofZ w64 z)) (pos 0) ≡ false → (ofZ w64 z ≡ 0 → ⊥) → r ≡ stoppedRun → Turned stage block z (stageIn r buf)
-  turn-unwritten n some e = rw e (gave-by stage block stoppedStage unwritten z (sign false n) some)
+module _ (z : ℤ) (fit : SFits w64 z) (n : ltZ (toZ w64 (ofZ w64 z)) (pos 0) ≡ false) (run : Run) (buf : List ℕ) where
+  pub turn-ended : (block : List ℕ) (r : Run) → ofZ w64 z ≡ 0 → r ≡ endedRun run → Turned (stageIn run buf) block z (stageIn r buf)
+  turn-ended block r none e = rw e (ended-by (stageIn run buf) block z (sign z fit false n) none)
 
-module _ (run : Run) (buf : List ℕ) (z : ℤ) (fit : SFits w64 z) (negative : ltZ (toZ w64 (ofZ w64 z)) (pos 0) ≡ false) (r : Run) where
-  pub turn-ended : (block : List ℕ) → ofZ w64 z ≡ 0 → r ≡ endedRun run → Turned (stageIn run buf) block z (stageIn r buf)
-  turn-ended block none e = rw e (ended-by (stageIn run buf) block z (sign (stageIn run buf) block z fit r buf false negative) none)
+  pub turn-unwritten : (block : List ℕ) (r : Run) (buf1 : List ℕ) → (ofZ w64 z ≡ 0 → ⊥) → r ≡ stoppedRun → Turned (stageIn run buf) block z (stageIn r buf1)
+  turn-unwritten block r buf1 some e = rw e (gave-by (stageIn run buf) block stoppedStage unwritten z (sign z fit false n) some)
 
-  -- with the bytes that it laid behind those that are kept
-  module _ (h : run .kept ≤ length buf) (moved : Moved (length buf - run .kept) z) (n got : ℕ) (c : n ≡ clamped (toZ w64 (ofZ w64 z)) (length buf)) (g : got ≡ min n (length buf - run .kept)) where
-    abbrev block : List ℕ
-    block = part buf (run .kept) (run .kept + countOf z)
+-- the bytes that it laid, behind those that are kept
+module _ (z : ℤ) (fit : SFits w64 z) (run : Run) (buf : List ℕ) (h : run .kept ≤ length buf) (moved : Moved (length buf - run .kept) z)
+    (count got : ℕ) (c : count ≡ clamped (toZ w64 (ofZ w64 z)) (length buf)) (g : got ≡ min count (length buf - run .kept)) where
+  abbrev block : List ℕ
+  block = part buf (run .kept) (run .kept + countOf z)
 
-    laid : got ≡ countOf z
-    laid = count-by z (length buf) (run .kept) n got moved (rw (toZ-ofZ fit) at c) g
+  laid : got ≡ countOf z
+  laid = count-by z (length buf) (run .kept) count got moved (rw (toZ-ofZ fit) at c) g
 
-    behind : part buf 0 (run .kept + got) ≡ part buf 0 (run .kept) ++ block
-    behind =
-        let size : run .kept + countOf z - run .kept ≡ countOf z = omega arith in
-        rw (laid, sub-zero (run .kept + countOf z), sub-zero (run .kept), size) (take-add (run .kept) (countOf z) buf)
+  behind : part buf 0 (run .kept + got) ≡ part buf 0 (run .kept) ++ block
+  behind =
+      let size : run .kept + countOf z - run .kept ≡ countOf z = omega arith in
+      rw (laid, sub-zero (run .kept + countOf z), sub-zero (run .kept), size) (take-add (run .kept) (countOf z) buf)
 
-    pub turn-stepped : (ofZ w64 z ≡ 0 → ⊥) → r ≡ afterStep run (part buf 0 (run .kept + got)) → (buf1 : List ℕ) → part buf1 0 (r .kept) ≡ keptBytes (run .progress) (part buf 0 (run .kept + got))
-        → Turned (stageIn run buf) block z (stageIn r buf1)
-    turn-stepped some e buf1 k =
-        let same : stageIn r buf1 ≡ nextStage (stageIn run buf) block = rw (k, e, behind) in
-        rw same (gave-by (stageIn run buf) block (nextStage (stageIn run buf) block) stepped z (sign (stageIn run buf) block z fit r buf false negative) some)
+  pub turn-stepped : ltZ (toZ w64 (ofZ w64 z)) (pos 0) ≡ false → (ofZ w64 z ≡ 0 → ⊥) → (r : Run) → r ≡ afterStep run (part buf 0 (run .kept + got))
+      → (buf1 : List ℕ) → part buf1 0 (r .kept) ≡ keptBytes (run .progress) (part buf 0 (run .kept + got)) → Turned (stageIn run buf) block z (stageIn r buf1)
+  turn-stepped n some r e buf1 k =
+      let same : stageIn r buf1 ≡ nextStage (stageIn run buf) block = rw (k, e, behind) in
+      rw same (gave-by (stageIn run buf) block (nextStage (stageIn run buf) block) stepped z (sign z fit false n) some)
+
+  pub prints-step : Reached (stageIn run buf) → run .more ≡ true → (text : List ℕ) → text ≡ stepText (run .progress) (part buf 0 (run .kept + got)) → Prints text
+  prints-step k m text e = step (stageIn run buf) block k m (e ∙ ap (stepText (run .progress)) behind)
 
 -- ---- how large the numbers get
 
@@ -98,6 +101,9 @@ stepped-counted most run r buf n g h room e = rw e (after-counted run (part buf 
 pub ruleset read-laws = (turn-failed, turn-unwritten, turn-ended, stopped-counted, ended-counted)
 
 -- ---- take_turn: a read into the part of the buffer behind the kept bytes
+
+abbrev pub filledIn : Run → List ℕ → List ℕ → List ℕ
+filledIn run buf last = putMid (run .kept) (length buf - run .kept) buf last
 
 module _ (buf last : List ℕ) (kept : ℕ) (h : kept ≤ length buf) (l : length last ≡ length (take (length buf - kept) (drop kept buf))) where
   abbrev filled : List ℕ
@@ -125,12 +131,21 @@ module _ (buf last : List ℕ) (kept : ℕ) (h : kept ≤ length buf) (l : lengt
         rw (toZ-ofZ (moved-fits (length filled - kept) z (omega (arith, filled-room)) m1)) m1
 
 pub turn-taken : (run r : Run) (buf last buf1 block : List ℕ) (z : ℤ) → run .kept ≤ length buf → length last ≡ length (take (length buf - run .kept) (drop (run .kept) buf))
-    → Turned (stageIn run (putMid (run .kept) (length buf - run .kept) buf last)) block z (stageIn r buf1) → Turn (stageIn run buf) (stageIn r buf1)
+    → Turned (stageIn run (filledIn run buf last)) block z (stageIn r buf1) → Turn (stageIn run buf) (stageIn r buf1)
 turn-taken run r buf last buf1 block z h l t = record {
   answered = z;
   block = block;
   turned = rw (filled-front buf last (run .kept) h l) at t;
 }
+
+pub filled-reached : (run : Run) (buf last : List ℕ) → run .kept ≤ length buf → length last ≡ length (take (length buf - run .kept) (drop (run .kept) buf))
+    → Reached (stageIn run buf) → Reached (stageIn run (filledIn run buf last))
+filled-reached run buf last h l k = rw (filled-front buf last (run .kept) h l) k
+
+-- ---- finish
+
+pub prints-end : (run : Run) (buf rest text : List ℕ) → rest ≡ part buf 0 (run .kept) → Reached (stageIn run buf) → text ≡ endText run rest → Prints text
+prints-end run buf rest text e k t = end (stageIn run buf) k (t ∙ ap (endText run) e)
 
 -- ---- the stages that the program comes to
 

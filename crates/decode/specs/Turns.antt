@@ -141,3 +141,9 @@ pub data Reached (stage : Stage) : Type 0 where
   reading : (blocks : List (List ℕ)) → stage ≡ stageAfter firstStage blocks → Reached stage
   done : (blocks : List (List ℕ)) → stage ≡ endedStage (stageAfter firstStage blocks) → Reached stage
   stopped : stage ≡ stoppedStage → Reached stage
+
+-- what it may print there: what a block more gives, or the end
+pub data Prints (text : List ℕ) : Type 0 where
+  step : (stage : Stage) (block : List ℕ) → Reached stage → stage .run .more ≡ true
+      → text ≡ stepText (stage .run .progress) (stage .kept ++ block) → Prints text
+  end : (stage : Stage) → Reached stage → text ≡ endText (stage .run) (stage .kept) → Prints text

@@ -13,11 +13,13 @@ ghost use Prim.Native.Nat.{_+_, _-_};
 ghost use lib.ListN.{length};
 ghost use Rattle.text.specs.Words.{part};
 ghost use Rattle.libc.specs.Io.{Moved};
-ghost use Rattle.decode.specs.Turns.{stageIn, countOf, Turned, Turn, Reached};
-ghost use Rattle.decode.specs.Inner.Sizes.{inputRoom, outputRoom, linesMost, Counted};
+ghost use Rattle.decode.specs.Turns.{stageIn, countOf, Turned, Turn, Reached, Prints};
+ghost use Rattle.decode.specs.Inner.Sizes.{inputRoom, outputRoom, linesMost, Counted, Ready};
 
-// Writes the first n bytes of out, and says so where that fails.
-fn print(out: &[u8], n: usize) -> bool {
+// Writes the first n bytes of out, which are a step's text or the end's, and says so where that fails.
+fn print(out: &[u8], n: usize) -> bool
+    requires { ⌜ Prints (part (now out) 0 n) ⌝ }
+{
     let is_written = io::write_all(STDOUT_FILENO, part(out, 0, n));
     if !is_written {
         os::fail(b"write");
@@ -27,9 +29,7 @@ fn print(out: &[u8], n: usize) -> bool {
 
 // After a read behind the kept bytes that answered so: decodes and prints what it gave.
 fn take_read(run: Run, answered: isize, buf: &mut [u8], out: &mut [u8]) -> Run
-    requires { ⌜ length (now buf) ≡ inputRoom ⌝ }
-    requires { ⌜ length (now out) ≡ outputRoom ⌝ }
-    requires { ⌜ Counted linesMost run ⌝ }
+    requires { ⌜ Ready run (now buf) (now out) ⌝ }
     requires { ⌜ Moved (length (now buf) - run .kept) answered ⌝ }
     ensures turned { λ r.
         ⌜ Turned (stageIn run (now (buf .entry)))
@@ -55,9 +55,7 @@ fn take_read(run: Run, answered: isize, buf: &mut [u8], out: &mut [u8]) -> Run
 
 // Reads once, behind the bytes that are kept, and decodes.
 pub(crate) fn take_turn(run: Run, buf: &mut [u8], out: &mut [u8]) -> Run
-    requires { ⌜ length (now buf) ≡ inputRoom ⌝ }
-    requires { ⌜ length (now out) ≡ outputRoom ⌝ }
-    requires { ⌜ Counted linesMost run ⌝ }
+    requires { ⌜ Ready run (now buf) (now out) ⌝ }
     ensures turn { λ r. ⌜ Turn (stageIn run (now (buf .entry))) (stageIn r (now (buf .exit))) ⌝ }
     ensures counted { λ r. ⌜ Counted (run .lines + inputRoom) r ⌝ }
 {

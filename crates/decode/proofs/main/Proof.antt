@@ -42,7 +42,9 @@ slice-aggregate-take-turn-2 : tie.Need-slice-aggregate-take-turn-2 Inv-loop μ-l
 slice-aggregate-take-turn-2 c = search needs
 
 take-turn-requires : tie.Need-take-turn-requires Inv-loop μ-loop
-take-turn-requires c κs = search needs
+take-turn-requires c κs =
+    let inv = c .before .before .before .loop .inv in
+    record { input = inv .0; output = inv .1 .0; counted = inv .1 .1 .1 .0; reached = inv .1 .1 .1 .1 .1; more = inv .1 .1 .1 .1 .0 (c .before .before .loop-test .taken) }
 
 sub-turns : tie.Need-sub-turns Inv-loop μ-loop
 sub-turns c = search needs

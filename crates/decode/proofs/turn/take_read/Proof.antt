@@ -1,6 +1,6 @@
 use Prim.Native.Nat.{_+_}
 use native.Mathlib.Omega.{arith}
-use Rattle.decode.proofs.TurnLaws.{read-laws, turn-stepped, stepped-counted}
+use Rattle.decode.proofs.TurnLaws.{read-laws, turn-stepped, prints-step, stepped-counted}
 use borrow.Author.Needs.{needs}
 use Rattle.decode.proofs.turn.take_read.Statement.{statement}
 use Rattle.decode.proofs.turn.take_read.Tie as tie
@@ -40,7 +40,14 @@ lay-step-requires : tie.Need-lay-step-requires
 lay-step-requires c κs = search needs
 
 print-requires : tie.Need-print-requires
-print-requires c κs = search needs
+print-requires c κs =
+    let start = c .before .before .before .before .before .before .before .before .before .before .before .before .before .before .before in
+    let laid = c .before .before .before .before .before .lay-step in
+    let count = c .before .before .before .before .before .before .before .before .before .count in
+    let lesser = c .before .before .before .before .before .before .before .before .lesser in
+    let pre = start .pre .0 in
+    prints-step (start .args .answered) (start .fits .answered) (start .args .run) (start .args .buf .now) (omega arith) (start .pre .1) (count .result) (lesser .result) (count .ensures .1) (lesser .ensures .0)
+    (pre .reached) (pre .more) _ (laid .ensures .1 .1)
 
 stopped-requires-2 : tie.Need-stopped-requires-2
 stopped-requires-2 c κs = search needs
@@ -69,11 +76,11 @@ returns-4 c =
     let laid = c .before .before .before .before .before .before .before .before .lay-step in
     let tests = c .before .before .before .before .before .before .before .before .before .before .before .before .before .before in
     let count = c .before .before .before .before .before .before .before .before .before .before .before .before .count in
-    let lesser = c .before .before .before .before .before .before .before .before .before .before .before .lesser in (
-      turn-stepped (start .args .run) (start .args .buf .now) (start .args .answered) (start .fits .answered) (tests .before .if1 .left) (laid .result .run)
-          (omega arith) (start .pre .1 .1 .1) (count .result) (lesser .result) (count .ensures .1) (lesser .ensures .0)
-          (tests .if2 .left) (laid .ensures .0) (laid .last .1 .0) (laid .ensures .1 .0),
-      stepped-counted linesMost (start .args .run) (laid .result .run) (start .args .buf .now) (start .args .run .kept + lesser .result) (start .pre .1 .1 .0) (omega arith) (start .pre .0) (laid .ensures .0),
+    let lesser = c .before .before .before .before .before .before .before .before .before .before .before .lesser in
+    let pre = start .pre .0 in (
+      turn-stepped (start .args .answered) (start .fits .answered) (start .args .run) (start .args .buf .now) (omega arith) (start .pre .1) (count .result) (lesser .result) (count .ensures .1) (lesser .ensures .0)
+          (tests .before .if1 .left) (tests .if2 .left) (laid .result .run) (laid .ensures .0) (laid .last .1 .0) (laid .ensures .1 .0),
+      stepped-counted linesMost (start .args .run) (laid .result .run) (start .args .buf .now) (start .args .run .kept + lesser .result) (pre .counted) (omega arith) (pre .input) (laid .ensures .0),
     )
 
 pub take-read-spec : {M : Type 1} → statement M

@@ -1,8 +1,10 @@
-use Prim.Native.Nat.{_≤_}
+use Prim.Native.Nat.{_-_, _≤_}
+use mathlib.Core.Path.{_≡_}
 use native.Mathlib.Omega.{arith}
-use lib.ListN.{length}
-use Rattle.decode.proofs.TurnLaws.{filled-room, filled-moved, turn-taken}
+use lib.ListN.{length, take, drop}
+use Rattle.decode.proofs.TurnLaws.{filledIn, filled-room, filled-moved, filled-reached, turn-taken}
 use borrow.Author.Needs.{needs}
+use Rattle.decode.specs.Inner.Sizes.{Ready}
 use Rattle.decode.proofs.turn.take_turn.Statement.{statement}
 use Rattle.decode.proofs.turn.take_turn.Tie as tie
 
@@ -23,7 +25,15 @@ take-read-requires c κs =
     let start = c .before .before .before .before .before .before .before .before in
     let read = c .before .before .before .before .read in
     let h : start .args .run .kept ≤ length (start .args .buf .now) = omega arith in
-    (filled-room (start .args .buf .now) (read .last .1 .0) (start .args .run .kept) h (search needs) (start .pre .0), (start .pre .1 .0, (start .pre .1 .1, filled-moved (start .args .buf .now) (read .last .1 .0) (start .args .run .kept) h (search needs) (start .pre .0) (read .result) (read .ensures))))
+    let l : length (read .last .1 .0) ≡ length (take (length (start .args .buf .now) - start .args .run .kept) (drop (start .args .run .kept) (start .args .buf .now))) = search needs in
+    let ready : Ready (start .args .run) (filledIn (start .args .run) (start .args .buf .now) (read .last .1 .0)) (start .args .out .now) = record {
+      input = filled-room (start .args .buf .now) (read .last .1 .0) (start .args .run .kept) h l (start .pre .input);
+      output = start .pre .output;
+      counted = start .pre .counted;
+      reached = filled-reached (start .args .run) (start .args .buf .now) (read .last .1 .0) h l (start .pre .reached);
+      more = start .pre .more;
+    } in
+    (ready, filled-moved (start .args .buf .now) (read .last .1 .0) (start .args .run .kept) h l (start .pre .input) (read .result) (read .ensures))
 
 same-length : tie.Need-same-length
 same-length c = search needs
