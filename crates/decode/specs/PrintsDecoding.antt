@@ -8,8 +8,7 @@ use Rattle.capture_decode.specs.Decode.{decodeText}
 use Rattle.capture_blocks.specs.Blocks.{joined}
 use Rattle.decode.specs.Turns.{stoppedRun, endText, printed}
 
--- "their outputs joined are the decoding of the whole", of the program: also where it does not read on, after a bad
--- first line
+-- also where the program does not read on: "A bad, missing or unended first line gives only `code=11`"
 abbrev pub PrintsDecoding : Type 0
 PrintsDecoding = (blocks : List (List ℕ)) → printed blocks ≡ decodeText (joined blocks)
 
