@@ -9,7 +9,7 @@ use lib.ListN.{length, take}
 use borrow.Author.Tests.{not-false, le-ltb}
 use Rattle.bits.specs.Choice.{pick}
 use Rattle.bits.specs.Put.{overFront}
-use Rattle.bits.proofs.PutLaws.{front-laid}
+use Rattle.bits.proofs.PutLaws.{front-over}
 use Rattle.tlp.specs.Rows.{Row, row, first, numbered}
 use Rattle.tlp.specs.Settings.{settingsListed}
 use Rattle.tlp.specs.declared.settings.Settings.{Settings}
@@ -120,7 +120,7 @@ exported-demand1 = record { reads = read-exactly; writes = write-exactly }
 -- a record that was laid is there
 record-laid : (p : Packet) (lent : List ℕ) → recordIn (overFront (recordOf p) lent) ≡ recordOf p
 unfolding recordOf
-record-laid p lent = front-laid (recordOf p) lent recordSize refl
+record-laid p lent = front-over (recordOf p) lent recordSize refl
 
 pub record-read-then-write : RecordReadThenWrite
 unfolding readPacket writeNumber writtenSize recordOut recordAnswer
@@ -147,4 +147,4 @@ record-write-then-read settings fields payload out lent size e room =
     let t = bytes-read settings p payload (length out) (sizeOf p) (a .1) in
     let same : packetIn (bytesOf p payload) ≡ p = accepted settings (bytesOf p payload) p (t .0) .1 in
     let back = record-back fields (not-false (isRecord fields) (a .0)) in
-    rw (w, front-laid (bytesOf p payload) out (sizeOf p) (t .1 .1), t .0, le-ltb (length lent) recordSize room, same, back) (refl, (refl, t .1 .0))
+    rw (w, front-over (bytesOf p payload) out (sizeOf p) (t .1 .1), t .0, le-ltb (length lent) recordSize room, same, back) (refl, (refl, t .1 .0))
