@@ -18,10 +18,10 @@
  *    nothing that was lent has changed. With 0 the packet's record, or the packet's bytes and their
  *    size, are in what was lent, and what lies past them has not changed (ExportedDemand1).
  *  - With the same settings, bytes that were read into a record, and written from it with the
- *    payload that stands in them, are the same bytes with reserved bits cleared
- *    (RecordReadThenWrite).
- *  - With the same settings, a packet that was written from a record is read back as the same
- *    record and the same payload (RecordWriteThenRead).
+ *    payload that stands in them, are accepted where `out` has room for as many bytes, and it then
+ *    holds the same bytes with reserved bits cleared (RecordReadThenWrite).
+ *  - With the same settings, a packet that was written from a record is read back, into any record
+ *    of 48 bytes or more, as the same record and the same payload (RecordWriteThenRead).
  *
  * They keep no state and allocate nothing, so any number of threads may call them at once.
  *

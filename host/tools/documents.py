@@ -362,7 +362,7 @@ def faults():
         if name not in NAMES_UNCHECKED:
             found += missing_names(name)
     found += long_entries("docs/LANDINGS.md") + functions_left_out("docs/TESTING.md") + wrong_examples("README.md")
-    return found + theorems.faults(HEADER, [name for name in documents() if name != "docs/LANDINGS.md"])
+    return found + theorems.faults(crates(), HEADER, [name for name in documents() if name != "docs/LANDINGS.md"])
 
 
 def write():

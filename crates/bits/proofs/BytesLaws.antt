@@ -5,6 +5,7 @@ use mathlib.Core.List.{List, [], _∷_, _++_}
 use native.Mathlib.Omega.{arith}
 use Rattle.bits.specs.Choice.{pick}
 use Rattle.bits.specs.Word.{bytes, Bytes}
+use Rattle.bits.proofs.WordLaws.{bytes-small}
 
 -- each number of a list is a byte, one after the other
 abbrev pub Each : List ℕ → Type 0
@@ -26,8 +27,7 @@ each-append [] ys h k = k
 each-append (x ∷ xs) ys h k = (h .0, each-append xs ys (h .1) k)
 
 pub each-of : (k x : ℕ) → Each (bytes k x)
-each-of zero x = tt
-each-of (suc k) x = (omega arith, each-of k x)
+each-of k x = bytes-each (bytes k x) (bytes-small k x)
 
 pub each-pick : (b : Bool) (xs ys : List ℕ) → Each xs → Each ys → Each (pick b xs ys)
 each-pick true xs ys h k = h

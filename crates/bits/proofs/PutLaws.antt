@@ -39,8 +39,8 @@ unfolding put
 put-front xs out = rw zero-add
 
 -- what is laid over a front stands there
-pub front-over : (xs out : List ℕ) (n : ℕ) → n ≡ length xs → take n (overFront xs out) ≡ xs
-front-over xs out n e = take-at xs (drop (length xs) out) n (sym e)
+pub take-over : (xs out : List ℕ) (n : ℕ) → n ≡ length xs → take n (overFront xs out) ≡ xs
+take-over xs out n e = take-at xs (drop (length xs) out) n (sym e)
 
 -- one list after another
 pub put-next : (a b out : List ℕ) → put (length a) b (put 0 a out) ≡ put 0 (a ++ b) out

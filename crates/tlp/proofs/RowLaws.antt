@@ -1,14 +1,14 @@
 -- Laws of a table of rows, in the words of a chain of tests with early returns: `search rows` walks the chain.
-use Prim.Native.Nat.{ℕ, zero, suc, _≤_, _<_}
-use mathlib.Core.Path.{_≡_, refl, sym, ap, _∙_}
+use Prim.Native.Nat.{ℕ, _≤_, _<_}
+use mathlib.Core.Path.{_≡_, refl}
 use mathlib.Core.List.{List, [], _∷_, _++_}
 use mathlib.Core.Logic.{inl, inr}
-use mathlib.Core.Bool.{Bool, true, false, _&&_, not, and-eq-true-iff}
+use mathlib.Core.Bool.{Bool, true, false, not, and-eq-true-iff}
 use native.Mathlib.Omega.{arith}
 use lib.Dec.{ltb, leb, eqb}
 use borrow.Author.Tests.{lt-ltb, le-ltb, eq-eqb, ne-eqb, leb-true}
 use Rattle.bits.specs.Choice.{pick}
-use Rattle.tlp.specs.Rows.{Row, row, first, Given, NoneHold, numbered, GivenExactly, NoneExactly}
+use Rattle.tlp.specs.Rows.{Row, row, first, Given, NoneHold, numbered, GivenExactly, NoneExactly, AnsweredBy}
 
 module _ (rs : List Row) (n : ℕ) where
   pub here : (r b : Bool) → r ≡ b → r ≡ true → n ≡ first (row n b ∷ rs)
@@ -121,6 +121,12 @@ first-none (r ∷ rs) k e =
 
 pub none-exactly : NoneExactly
 none-exactly rs k = (first-none rs k, none-first rs)
+
+pub answered-by : (rs : List Row) (n : ℕ) → numbered rs ≡ true → n ≡ first rs → AnsweredBy n rs
+answered-by rs n k e = record {
+  refused = λ m h. rw e (given-exactly rs m h);
+  accepted = rw e (none-exactly rs k);
+}
 
 pub none-join : (ps qs : List Row) → NoneHold ps → NoneHold qs → NoneHold (ps ++ qs)
 none-join [] qs h k = k

@@ -44,3 +44,9 @@ GivenExactly = (rs : List Row) (n : ℕ) → 0 < n → (first rs ≡ n) ↔ Give
 
 abbrev pub NoneExactly : Type 0
 NoneExactly = (rs : List Row) → numbered rs ≡ true → (first rs ≡ 0) ↔ NoneHold rs
+
+-- A call is answered by a list of rows: its number is k exactly when a row of number k is given, and 0, for accepted,
+-- exactly when no row holds.
+pub record AnsweredBy (number : ℕ) (rs : List Row) : Type 0 where
+  pub refused : (k : ℕ) → 0 < k → (number ≡ k) ↔ Given k rs
+  pub accepted : (number ≡ 0) ↔ NoneHold rs

@@ -16,5 +16,5 @@ pub mod ReservedIgnored
 pub mod WrittenBytes
 pub mod Demand1
 pub mod RoundTrips
-pub mod Records
+pub mod PacketRecords
 pub mod ExportedCalls

@@ -4,7 +4,7 @@ use mathlib.Core.Path.{_≡_, sym, ap, _∙_}
 use mathlib.Core.List.{List}
 use native.Mathlib.Nat.{le-refl}
 use lib.ListN.{length, take}
-use Rattle.bits.proofs.PutLaws.{front-over}
+use Rattle.bits.proofs.PutLaws.{take-over}
 use Rattle.tlp.specs.declared.settings.Settings.{Settings}
 use Rattle.tlp.specs.declared.packet.Packet.{Packet}
 use Rattle.tlp_write.specs.Layout.{bytesOf}
@@ -18,7 +18,7 @@ use Rattle.tlp_demands.proofs.WrittenBytes.{written-small}
 module _ (settings : Settings) (p : Packet) (payload out : List ℕ) (size : ℕ) (e : writePacket settings p (length payload) (length out) ≡ Written size) where
   front-written : take size (writeOut settings p payload out) ≡ bytesOf p payload
   unfolding writeOut
-  front-written = rw e (front-over (bytesOf p payload) out size (bytes-read settings p payload (length out) size e .1 .1))
+  front-written = rw e (take-over (bytesOf p payload) out size (bytes-read settings p payload (length out) size e .1 .1))
 
 pub write-then-read : WriteThenRead
 write-then-read settings p payload out size e =

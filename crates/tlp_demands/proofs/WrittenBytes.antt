@@ -1,5 +1,5 @@
 -- What is written is bytes, where the payload is: every number below 256.
-use Prim.Native.Nat.{ℕ, _*_, _^_, _<_}
+use Prim.Native.Nat.{ℕ, _*_, _^_}
 use mathlib.Core.Path.{_≡_}
 use mathlib.Core.Bool.{false}
 use mathlib.Core.List.{List, [], _∷_, _++_}
@@ -9,13 +9,8 @@ use Rattle.bits.specs.Choice.{pick}
 use Rattle.bits.specs.Field.{low}
 use Rattle.bits.specs.Word.{bytes, Bytes}
 use Rattle.bits.proofs.BytesLaws.{Each, each-bytes, bytes-each, each-append, each-of, each-pick}
-use Rattle.tlp.specs.PacketTypes.{firstByte}
 use Rattle.tlp.specs.Packets.{addressOf, idOf, typeOf}
-use Rattle.tlp.specs.declared.packet_type.PacketType.{PacketType}
-use Rattle.tlp.specs.declared.packet_type.PacketType.the-variants.{MRd32, MRd64, MWr32, MWr64, IORd, IOWr, CfgRd0, CfgWr0, CfgRd1, CfgWr1, Msg, MsgD, Cpl, CplD, Unlisted}
-use Rattle.tlp.specs.declared.packet.Implicit.the-variants.{Root, Broadcast, Local, Gathered}
 use Rattle.tlp.specs.declared.packet.Route.{Route}
-use Rattle.tlp.specs.declared.packet.Route.the-variants.{Address, Id, Implicit as Implied}
 use Rattle.tlp.specs.declared.packet.Request.{Request}
 use Rattle.tlp.specs.declared.packet.ConfigRequest.{ConfigRequest}
 use Rattle.tlp.specs.declared.packet.MessageRequest.{MessageRequest}
@@ -24,7 +19,8 @@ use Rattle.tlp.specs.declared.packet.Kind.{Kind}
 use Rattle.tlp.specs.declared.packet.Kind.the-variants.{MemoryRead, MemoryWrite, IoRead, IoWrite, ConfigRead0, ConfigWrite0, ConfigRead1, ConfigWrite1, Message, MessageData, Completion, CompletionData}
 use Rattle.tlp.specs.declared.packet.Packet.{Packet}
 use Rattle.tlp_writable.specs.Given.{lengthBad, requestBad, configBad, messageBad, completionBad, ownBad}
-use Rattle.tlp_write.specs.Layout.{routing, routingIn, requestBytes, memoryAddress, configBytes, messageBytes, completionBytes, ownBytes, frontBytes, headerOf, digestOf, bytesOf}
+use Rattle.tlp_write.proofs.LayoutLaws.{first-le, routing-low}
+use Rattle.tlp_write.specs.Layout.{requestBytes, memoryAddress, configBytes, messageBytes, completionBytes, ownBytes, frontBytes, headerOf, digestOf, bytesOf}
 use Rattle.tlp_demands.proofs.Tests.{right-no}
 use Rattle.tlp_demands.proofs.Fits.{request-fits, config-fits, message-fits, completion-fits}
 use Rattle.tlp_demands.proofs.Front.{flag-lt}
@@ -73,52 +69,12 @@ own-small r (CompletionData c n) e = completion-small (idOf r) c (right-no (leng
 
 -- ---- bytes 0 to 3
 
-first-lt : (t : PacketType) → firstByte t < 128
-first-lt MRd32 = omega arith
-first-lt MRd64 = omega arith
-first-lt MWr32 = omega arith
-first-lt MWr64 = omega arith
-first-lt IORd = omega arith
-first-lt IOWr = omega arith
-first-lt CfgRd0 = omega arith
-first-lt CfgWr0 = omega arith
-first-lt CfgRd1 = omega arith
-first-lt CfgWr1 = omega arith
-first-lt Msg = omega arith
-first-lt MsgD = omega arith
-first-lt Cpl = omega arith
-first-lt CplD = omega arith
-first-lt Unlisted = omega arith
-
-routing-lt : (r : Route) → routing r < 8
-routing-lt (Address a) = omega arith
-routing-lt (Id i) = omega arith
-routing-lt (Implied Root) = omega arith
-routing-lt (Implied Broadcast) = omega arith
-routing-lt (Implied Local) = omega arith
-routing-lt (Implied Gathered) = omega arith
-
-routing-in-lt : (r : Route) (k : Kind) → routingIn r k < 8
-unfolding routingIn
-routing-in-lt r (MemoryRead q) = omega arith
-routing-in-lt r (MemoryWrite q) = omega arith
-routing-in-lt r (IoRead q) = omega arith
-routing-in-lt r (IoWrite q) = omega arith
-routing-in-lt r (ConfigRead0 q) = omega arith
-routing-in-lt r (ConfigWrite0 q) = omega arith
-routing-in-lt r (ConfigRead1 q) = omega arith
-routing-in-lt r (ConfigWrite1 q) = omega arith
-routing-in-lt r (Message m) = routing-lt r
-routing-in-lt r (MessageData m n) = routing-lt r
-routing-in-lt r (Completion c) = omega arith
-routing-in-lt r (CompletionData c n) = omega arith
-
 front-small : (p : Packet) → Each (frontBytes p)
 unfolding frontBytes
 front-small p =
     let digest = flag-lt (p .«has_digest») in
     let poisoned = flag-lt (p .poisoned) in
-    (omega (arith, first-lt (typeOf p), routing-in-lt (p .route) (p .kind)), (omega arith, (omega (arith, digest, poisoned), (omega arith, tt))))
+    (omega (arith, first-le (typeOf p), routing-low (p .route) (p .kind)), (omega arith, (omega (arith, digest, poisoned), (omega arith, tt))))
 
 -- ---- the packet
 

@@ -9,20 +9,19 @@ use lib.Dec.{ltb}
 use lib.ListN.{length, take}
 use Rattle.bits.specs.Put.{overFront}
 use Rattle.bits.specs.Word.{Bytes}
-use Rattle.tlp.specs.Rows.{Row, row}
+use Rattle.tlp.specs.Rows.{Row, row, AnsweredBy}
 use Rattle.tlp.specs.Reserved.{clearReserved}
 use Rattle.tlp.specs.Settings.{settingsListed}
 use Rattle.tlp.specs.declared.settings.Settings.{Settings}
 use Rattle.tlp_read.specs.Read.{readRows, readPacket, packetIn, payloadIn}
 use Rattle.tlp_writable.specs.Given.{givenRows}
-use Rattle.tlp_write.specs.Layout.{sizeOf, bytesOf}
+use Rattle.tlp_write.specs.Layout.{bytesOf}
 use Rattle.tlp_write.specs.Write.{laterRows}
 use Rattle.tlp_record.specs.Places.{recordSize}
 use Rattle.tlp_record.specs.Record.{recordOf, recordPacket, isRecord}
 use Rattle.tlp_record_read.specs.RecordRead.{readNumber, readRecord}
 use Rattle.tlp_record_write.specs.RecordWrite.{recordOut}
 use Rattle.tlp_c.specs.Calls.{writeNumber, writtenSize}
-use Rattle.tlp_demands.specs.Demand1.{ByRows}
 
 -- ---- demand 1: "A refusal comes exactly when the documents list its fault and carries the number fixed there, and ..
 -- every lent output stay as they were."
@@ -39,7 +38,7 @@ exportedWriteRows settings fields n room =
     ∷ (givenRows (recordPacket fields) ++ laterRows settings (recordPacket fields) n room)
 
 pub record ExportedReadExactly (settings : Settings) (packet lent : List ℕ) : Type 0 where
-  pub number : ByRows (readNumber (readPacket settings packet) (length lent))
+  pub number : AnsweredBy (readNumber (readPacket settings packet) (length lent))
       (exportedReadRows settings packet (length lent))
   pub unchanged : 0 < readNumber (readPacket settings packet) (length lent)
       → readRecord (readPacket settings packet) lent ≡ lent
@@ -48,15 +47,15 @@ pub record ExportedReadExactly (settings : Settings) (packet lent : List ℕ) : 
       → readRecord (readPacket settings packet) lent ≡ overFront (recordOf (packetIn packet)) lent
 
 pub record ExportedWriteExactly (settings : Settings) (fields payload out : List ℕ) (size : ℕ) : Type 0 where
-  pub number : ByRows (writeNumber settings fields (length payload) (length out))
+  pub number : AnsweredBy (writeNumber settings fields (length payload) (length out))
       (exportedWriteRows settings fields (length payload) (length out))
   pub unchanged : 0 < writeNumber settings fields (length payload) (length out)
       → (recordOut settings fields payload out ≡ out)
       × (writtenSize settings fields (length payload) (length out) size ≡ size)
-  -- the packet that the record describes, over the front of the output, and its size
+  -- the bytes of the packet that the record describes, over the front of the output, and their size
   pub written : writeNumber settings fields (length payload) (length out) ≡ 0
       → (recordOut settings fields payload out ≡ overFront (bytesOf (recordPacket fields) payload) out)
-      × (writtenSize settings fields (length payload) (length out) size ≡ sizeOf (recordPacket fields))
+      × (writtenSize settings fields (length payload) (length out) size ≡ length (bytesOf (recordPacket fields) payload))
 
 pub record ExportedDemand1 : Type 0 where
   pub reads : (settings : Settings) (packet lent : List ℕ) → ExportedReadExactly settings packet lent
@@ -65,19 +64,19 @@ pub record ExportedDemand1 : Type 0 where
 
 -- ---- demand 2
 
--- the record in a thing that was lent for it
-abbrev pub recordIn : List ℕ → List ℕ
-recordIn lent = take recordSize lent
+-- the record that lies at the front of what was lent for it
+abbrev pub laidRecord : List ℕ → List ℕ
+laidRecord lent = take recordSize lent
 
--- "reading then writing gives the same bytes with reserved bits cleared": bytes are read into a lent record, and what then
--- lies in it is written with the payload that stands in the bytes, into any output with room
+-- "reading then writing gives the same bytes with reserved bits cleared": bytes are read into a lent record, and what
+-- then lies in it is written with the payload that stands in the bytes, into any output with room
 abbrev pub RecordReadThenWrite : Type 0
 RecordReadThenWrite =
     (settings : Settings) (packet lent out : List ℕ) (size : ℕ)
     → Bytes packet
     → readNumber (readPacket settings packet) (length lent) ≡ 0
     → length packet ≤ length out
-    → let fields = recordIn (readRecord (readPacket settings packet) lent) in
+    → let fields = laidRecord (readRecord (readPacket settings packet) lent) in
     (writeNumber settings fields (length (payloadIn packet)) (length out) ≡ 0)
     × ((recordOut settings fields (payloadIn packet) out ≡ overFront (clearReserved packet) out)
     × (writtenSize settings fields (length (payloadIn packet)) (length out) size ≡ length packet))

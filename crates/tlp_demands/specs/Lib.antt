@@ -1,4 +1,4 @@
 pub mod Demand1
 pub mod RoundTrips
-pub mod Records
+pub mod PacketRecords
 pub mod ExportedCalls

@@ -22,7 +22,7 @@ use Rattle.tlp_writable.specs.Given.{lengthBad, requestBad, configBad, messageB
 use Rattle.tlp_record.specs.declared.KindFields.{KindFields}
 use Rattle.tlp_record.specs.Record.{requestFields, configFields, messageFields, completionFields, fieldsOf, recordWith, recordOf, requestIn, configIn, messageIn, completionIn, kindIn, routeIn, recordPacket, isRecord}
 use Rattle.bits.proofs.SameLaws.{same-self}
-use Rattle.tlp_demands.specs.Records.{RecordOfWritable, RecordOfRead}
+use Rattle.tlp_demands.specs.PacketRecords.{RecordOfWritable, RecordOfRead}
 use Rattle.tlp_demands.proofs.Tests.{left-no, right-no}
 use Rattle.tlp_demands.proofs.Fits.{fits, inside, request-fits, config-fits, message-fits, completion-fits, common-fits}
 use Rattle.tlp_demands.proofs.Front.{flag-back}

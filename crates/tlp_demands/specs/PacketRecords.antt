@@ -1,4 +1,4 @@
--- What packets are as records and back: two theorems, proved in proofs/Records.antt.
+-- What packets are as records and back: two theorems, proved in proofs/PacketRecords.antt.
 use Prim.Native.Nat.{ℕ}
 use mathlib.Core.Path.{_≡_}
 use mathlib.Core.Bool.{true}
@@ -17,8 +17,8 @@ pub record HasRecord (p : Packet) : Type 0 where
   pub packet : recordPacket (recordOf p) ≡ p
   pub is-record : isRecord (recordOf p) ≡ true
 
--- Every packet whose fields the writer takes, its first 6, has a record. One with a number that exceeds its field has none
--- that says so.
+-- Every packet that the writer's first 6 lets pass has a record. Of others some have none: a requester ID over 16 bits
+-- would be cut to two bytes.
 abbrev pub RecordOfWritable : Type 0
 RecordOfWritable = (p : Packet) → NoneHold (givenRows p) → HasRecord p
 
