@@ -1,6 +1,6 @@
 -- Demand 2's last sentence.
 use Prim.Native.Nat.{ℕ}
-use mathlib.Core.Path.{_≡_, ap, _∙_}
+use mathlib.Core.Path.{_≡_, _∙_}
 use mathlib.Core.Logic.{_⊎_, inl, inr}
 use mathlib.Core.Bool.{Bool, true, false}
 use mathlib.Core.List.{List}
@@ -15,23 +15,19 @@ use Rattle.reads_answers.specs.declared.TakeAnswer.{TakeAnswer}
 use Rattle.reads_answers.specs.declared.TakeAnswer.the-variants.{More, Done}
 use Rattle.reads.specs.TakeCall.{takeCall}
 use Rattle.reads_demands.specs.Demand2.{Continues, TakenExactly}
-use Rattle.reads_demands.proofs.OneTake.{takes, Met, meets, continues, done-last}
+use Rattle.reads_demands.proofs.OneTake.{meets, continues, done-last}
 
 more-or-done : (a : Bool) (x : TakeAnswer) → x ≡ pick a Done More → (x ≡ More) ⊎ (x ≡ Done)
 more-or-done true x e = inr e
 more-or-done false x e = inl e
 
 module _ (t : Table) (b : List ℕ) (room : ℕ) where
-  met : Met t b room → (r : Read) × Continues t b room r
-  met m = (m .read, m .continues)
-
   some-read : (takeCall t b room .answer ≡ More) ⊎ (takeCall t b room .answer ≡ Done) → (r : Read) × Continues t b room r
-  some-read (inl e) = met (meets t b room (ap takes e))
-  some-read (inr e) = met (meets t b room (ap takes e))
+  some-read e = let m = meets t b room e in (m .read, m .continues)
 
   is-done : takeCall t b room .answer ≡ Done → (r : Read) × (Continues t b room r × (pieceIn b .length ≡ owedOf r))
   is-done e =
-      let m = meets t b room (ap takes e) in
+      let m = meets t b room (inr e) in
       (m .read, (m .continues, done-last t b room m e))
 
 pub taken-exactly : TakenExactly

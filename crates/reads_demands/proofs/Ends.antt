@@ -2,7 +2,7 @@
 -- own are a lawful cutting, and its store .. can hold the window."
 use Prim.Native.Nat.{ℕ, _+_, _-_}
 use mathlib.Core.Path.{_≡_, refl, sym, ap, _∙_}
-use mathlib.Core.Logic.{_↔_}
+use mathlib.Core.Logic.{inr, _↔_}
 use mathlib.Core.Bool.{true, true≢false}
 use mathlib.Core.Option.{Option, none, some}
 use mathlib.Core.List.{List, [], _∷_, _++_}
@@ -133,11 +133,11 @@ module _ {o : Origin} {t : Table} {h : History} (f : Follows o t h) (k : Begins 
   done-ends e = go (openRequest (pieceIn b .header .tag) h) refl
     where
       go : (x : Option ReadRequest) → openRequest (pieceIn b .header .tag) h ≡ x → Ends o h b store
-      go none n = let m = meets t b (length store) (rw e) in absurd (free-not (m .read) (sym (record-free h (pieceIn b .header .tag) n) ∙ (sym (f .records (pieceIn b .header .tag)) ∙ m .continues .is-open)))
+      go none n = let m = meets t b (length store) (inr e) in absurd (free-not (m .read) (sym (record-free h (pieceIn b .header .tag) n) ∙ (sym (f .records (pieceIn b .header .tag)) ∙ m .continues .is-open)))
       go (some q) n =
           let tag = pieceIn b .header .tag in
           let bs = takenPieces tag h in
-          let m = meets t b (length store) (rw e) in
+          let m = meets t b (length store) (inr e) in
           let r : m .read ≡ takenTo q (doublewords bs) = same-read (stateAt t tag) _ _ (m .continues .is-open) (f .records tag ∙ record-open h tag q n) in
           let c : Continues t b (length store) (takenTo q (doublewords bs)) = rw r at (m .continues) in
           let last : pieceIn b .length ≡ owedOf (takenTo q (doublewords bs)) = rw r at (done-last t b (length store) m e) in

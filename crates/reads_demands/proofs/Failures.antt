@@ -1,103 +1,110 @@
 -- Failed and Poisoned, exactly when: the theorem `FailuresExactly`.
-use Prim.Native.Nat.{ℕ, suc}
-use mathlib.Core.Path.{_≡_, refl, ap, _∙_}
+use Prim.Native.Nat.{ℕ}
+use mathlib.Core.Path.{_≡_, refl, sym, subst, _∙_}
+use mathlib.Core.Logic.{inl, inr}
 use mathlib.Core.Bool.{Bool, true, false}
 use mathlib.Core.List.{List}
 use native.Mathlib.Omega.{arith}
 use lib.Dec.{eqb}
 use lib.ListN.{length}
+use borrow.Author.Tests.{eqb-true, eqb-false, eq-eqb, ne-eqb}
 use Rattle.bits.specs.Choice.{pick}
 use Rattle.tlp_read.specs.Read.{payloadIn}
 use Rattle.reads_rules.specs.declared.read.Read.{Read}
 use Rattle.reads_rules.specs.declared.state.State.the-variants.{Free}
 use Rattle.reads_rules.specs.Windows.{holdsWindow}
-use Rattle.reads_rules.specs.Validity.{owedOf}
 use Rattle.reads_rules.specs.Pieces.{pieceIn}
 use Rattle.reads_rules.specs.Continuations.{legal, succeeds, reported}
 use Rattle.reads.specs.declared.table.Table.{Table}
 use Rattle.reads_answers.specs.declared.TakeAnswer.{TakeAnswer}
-use Rattle.reads_answers.specs.declared.TakeAnswer.the-variants.{More, Done, Failed, Poisoned, Unread, Refused}
+use Rattle.reads_answers.specs.declared.TakeAnswer.the-variants.{Failed, Poisoned}
 use Rattle.reads_answers.specs.Takes.{readIn, outcome}
-use Rattle.reads.specs.Answers.{takeNumber}
 use Rattle.reads.specs.Tables.{stateAt, withState, validTable}
 use Rattle.reads.specs.TakeCall.{takeCall, tableGiven, storeGiven}
-use Rattle.reads_demands.specs.Failures.{Fails, Poisons, Closes, FailuresExactly}
+use Rattle.reads_demands.specs.Failures.{Reports, Fails, Poisons, Closes, FailuresExactly}
 use Rattle.reads_demands.proofs.Tests.{asked}
 use Rattle.reads_demands.proofs.Limits.{state-freed}
-use Rattle.reads_demands.proofs.Passes.{PassesFor, passes, passed}
+use Rattle.reads_demands.proofs.Passes.{passed, outcome-of}
 use Rattle.reads_demands.proofs.OneTake.{take-table, take-store}
 
--- ---- which outcome it is
+-- ---- the status that is reported
 
--- tells Failed, with its status, and Poisoned from each other and from the others
-abbrev mark : TakeAnswer → ℕ
-mark More = 0
-mark Done = 0
-mark (Failed status) = suc (suc status)
-mark Poisoned = 1
-mark (Unread r) = 0
-mark (Refused n) = 0
+reports : (n : ℕ) → Reports n (reported n)
+unfolding reported
+reports n = go (eqb n 0b100) refl
+  where
+    go : (b : Bool) → eqb n 0b100 ≡ b → Reports n (pick b 0b100 0b001)
+    go true e = inl (eqb-true n 0b100 e, refl)
+    go false e = inr (eqb-false n 0b100 e, refl)
 
-chose-failed : (a b d : Bool) (s status : ℕ) → pick a (pick b Poisoned (pick d Done More)) (Failed s) ≡ Failed status → (a ≡ false) × (s ≡ status)
-chose-failed true true d s status e = absurd (let k : 1 ≡ suc (suc status) = ap mark e in omega arith)
-chose-failed true false true s status e = absurd (let k : 0 ≡ suc (suc status) = ap mark e in omega arith)
-chose-failed true false false s status e = absurd (let k : 0 ≡ suc (suc status) = ap mark e in omega arith)
-chose-failed false b d s status e = (refl, let k : suc (suc s) ≡ suc (suc status) = ap mark e in omega arith)
+reports-so : (n status : ℕ) → Reports n status → reported n ≡ status
+unfolding reported
+reports-so n status (inl k) = rw (eq-eqb n 0b100 (k .0), k .1)
+reports-so n status (inr k) = rw (ne-eqb n 0b100 (k .0), k .1)
 
-chose-poisoned : (a b d : Bool) (s : ℕ) → pick a (pick b Poisoned (pick d Done More)) (Failed s) ≡ Poisoned → (a ≡ true) × (b ≡ true)
-chose-poisoned true true d s e = (refl, refl)
-chose-poisoned true false true s e = absurd (let k : 0 ≡ 1 = ap mark e in omega arith)
-chose-poisoned true false false s e = absurd (let k : 0 ≡ 1 = ap mark e in omega arith)
-chose-poisoned false b d s e = absurd (let k : suc (suc s) ≡ 1 = ap mark e in omega arith)
+-- ---- exactly when
 
 module _ (t : Table) (b : List ℕ) (room : ℕ) where
-  -- a packet with such an answer passed
-  record Answered (x : TakeAnswer) : Type 0 where
-    read : Read
-    passing : PassesFor t b room read
-    same : outcome read (pieceIn b) ≡ x
-
-  answered : (x : TakeAnswer) → takeNumber x ≡ 0 → takeCall t b room .answer ≡ x → Answered x
-  answered x z e =
-      let (r, k) = passes t b room (ap takeNumber e ∙ z) in
-      record { read = r; passing = k; same = rw (passed t b room r k) at e }
-
   fails : (status : ℕ) → takeCall t b room .answer ≡ Failed status → (r : Read) × Fails t b r status
-  unfolding outcome
   fails status e =
-      let c = pieceIn b in
-      let k = answered (Failed status) refl e in
-      let u = chose-failed (succeeds c) (c .poisoned) (eqb (c .length) (owedOf (k .read))) (reported (c .header .status)) status (k .same) in
-      (k .read, record { matches = k .passing .matches; failing = u .0; reports = u .1 })
+      let k = outcome-of t b room (Failed status) refl e in
+      let fine = k .passing .status in (
+        k .read,
+        record {
+          matches = k .passing .matches;
+          unmodified = fine .unmodified;
+          without-data = fine .with-data ∙ k .said .0;
+          failing = eqb-false _ _ (k .said .0);
+          no-retry = fine .no-retry;
+          reports = subst (Reports (pieceIn b .header .status)) (k .said .1) (reports (pieceIn b .header .status));
+        },
+      )
 
   failed : validTable t ≡ true → (status : ℕ) (r : Read) → Fails t b r status → takeCall t b room .answer ≡ Failed status
   unfolding outcome
   failed v status r f =
-      passed t b room r (record { valid = v; matches = f .matches; continues = rw (f .failing); holds = rw (f .failing) })
-      ∙ rw (f .failing, f .reports)
+      let no : succeeds (pieceIn b) ≡ false = ne-eqb _ _ (f .failing) in
+      passed t b room r
+      (record {
+        valid = v;
+        matches = f .matches;
+        status = record { unmodified = f .unmodified; no-retry = f .no-retry; with-data = f .without-data ∙ sym no };
+        continues = rw no;
+        holds = rw no;
+      })
+      ∙ rw (no, reports-so _ _ (f .reports))
 
   poisons : takeCall t b room .answer ≡ Poisoned → (r : Read) × Poisons t b room r
-  unfolding outcome
   poisons e =
       let c = pieceIn b in
-      let k = answered Poisoned refl e in
-      let r = k .read in
-      let u = chose-poisoned (succeeds c) (c .poisoned) (eqb (c .length) (owedOf r)) (reported (c .header .status)) (k .same) in (
-        r,
+      let k = outcome-of t b room Poisoned refl e in
+      let p = k .passing in
+      let ok = k .said .0 in (
+        k .read,
         record {
-          matches = k .passing .matches;
-          successful = u .0;
-          is-legal = asked (succeeds c) (legal (t .origin) r c) (u .0) (k .passing .continues);
-          holds = asked (succeeds c) (holdsWindow (r .request) room) (u .0) (k .passing .holds);
-          poisoned = u .1;
+          matches = p .matches;
+          unmodified = p .status .unmodified;
+          with-data = p .status .with-data ∙ ok;
+          successful = eqb-true _ _ ok;
+          is-legal = asked (succeeds c) (legal (t .origin) (k .read) c) ok (p .continues);
+          holds = asked (succeeds c) (holdsWindow (k .read .request) room) ok (p .holds);
+          poisoned = k .said .1;
         },
       )
 
   poisoned : validTable t ≡ true → (r : Read) → Poisons t b room r → takeCall t b room .answer ≡ Poisoned
   unfolding outcome
   poisoned v r p =
-      passed t b room r (record { valid = v; matches = p .matches; continues = rw (p .successful, p .is-legal); holds = rw (p .successful, p .holds) })
-      ∙ rw (p .successful, p .poisoned)
+      let ok : succeeds (pieceIn b) ≡ true = eq-eqb _ _ (p .successful) in
+      passed t b room r
+      (record {
+        valid = v;
+        matches = p .matches;
+        status = record { unmodified = p .unmodified; no-retry = λ e. omega (arith, p .successful, e); with-data = p .with-data ∙ sym ok };
+        continues = rw (ok, p .is-legal);
+        holds = rw (ok, p .holds);
+      })
+      ∙ rw (ok, p .poisoned)
 
 -- ---- table and store: of an answer that frees the tag and leaves the store
 closes : (t : Table) (b store : List ℕ) (x : TakeAnswer) → tableGiven x t (pieceIn b) ≡ withState t (pieceIn b .header .tag) Free

@@ -35,7 +35,7 @@ use Rattle.reads_demands.specs.Demand2.{Continues}
 use Rattle.reads_demands.specs.Demand3.{Outside, TakeFrame, Unchanged, answered, eventNumber}
 use Rattle.reads_demands.proofs.Limits.{state-with-other}
 use Rattle.reads_demands.proofs.CleanPieces.{clean-bytes, legal-length, window-within}
-use Rattle.reads_demands.proofs.OneTake.{takes, Met, meets, take-table, take-store}
+use Rattle.reads_demands.proofs.OneTake.{Met, meets, take-table, take-store}
 
 -- ---- another tag's record
 
@@ -85,8 +85,8 @@ module _ (t : Table) (b store : List ℕ) where
 
   given-bytes : (x : TakeAnswer) → takeCall t b (length store) .answer ≡ x → (i : ℕ) → Outside (stateAt t (pieceIn b .header .tag)) i
       → getD (storeGiven x (readIn (stateAt t (pieceIn b .header .tag))) (payloadIn b) store) i 0 ≡ getD store i 0
-  given-bytes More e i o = met-bytes (meets t b (length store) (ap takes e)) i o
-  given-bytes Done e i o = met-bytes (meets t b (length store) (ap takes e)) i o
+  given-bytes More e i o = met-bytes (meets t b (length store) (inl e)) i o
+  given-bytes Done e i o = met-bytes (meets t b (length store) (inr e)) i o
   given-bytes (Failed status) e i o = refl
   given-bytes Poisoned e i o = refl
   given-bytes (Unread u) e i o = refl
