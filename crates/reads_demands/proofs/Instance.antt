@@ -45,7 +45,7 @@ use Rattle.cuttings.specs.Lawful.{readsAsCompletion, cleanPacket, lawfulFrom, l
 use Rattle.reads_demands.specs.History.{Call, taking, Event, openEvent, takeEvent, withdrawEvent, owedEvent, pieceTag}
 use Rattle.reads_demands.specs.Demand3.{next, answered, lent, left, run, answers, reached, Item, other, piece, calls, pieces}
 use Rattle.reads_demands.specs.Demand3.{Harmless, Undisturbed, SameWindow, orLast, SameStore, Delivered}
-use Rattle.reads_demands.specs.Instance.{Worked, list, opened, windowOf, Premises, wholeWorked, trimmedWorked, WorkedHold}
+use Rattle.reads_demands.specs.Instance.{Worked, list, afterOpening, windowOf, Premises, wholeWorked, trimmedWorked, WorkedHold}
 use Rattle.reads_demands.proofs.Demand3.{demand3}
 
 -- ---- the calls between, as a test
@@ -65,15 +65,15 @@ is-harmless tag (takeEvent b store x) h = refused (pieceTag b) tag (takeNumber x
 is-harmless tag (withdrawEvent u x) h = refused u tag (withdrawNumber x) h
 is-harmless tag (owedEvent x) h = tt
 
-abbrev undisturbed : ℕ → Table → List Item → Bool
-undisturbed tag t [] = true
-undisturbed tag t (other c ∷ is) = harmless tag (answered t c) && undisturbed tag (next t c) is
-undisturbed tag t (piece b store ∷ is) = undisturbed tag (next t (taking b store)) is
+abbrev allHarmless : ℕ → Table → List Item → Bool
+allHarmless tag t [] = true
+allHarmless tag t (other c ∷ is) = harmless tag (answered t c) && allHarmless tag (next t c) is
+allHarmless tag t (piece b store ∷ is) = allHarmless tag (next t (taking b store)) is
 
-is-undisturbed : (tag : ℕ) (t : Table) (is : List Item) → undisturbed tag t is ≡ true → Undisturbed tag t is
+is-undisturbed : (tag : ℕ) (t : Table) (is : List Item) → allHarmless tag t is ≡ true → Undisturbed tag t is
 is-undisturbed tag t [] h = tt
 is-undisturbed tag t (other c ∷ is) h =
-    let p = and-eq-true-iff (harmless tag (answered t c)) (undisturbed tag (next t c) is) .0 h in
+    let p = and-eq-true-iff (harmless tag (answered t c)) (allHarmless tag (next t c) is) .0 h in
     (is-harmless tag (answered t c) (p .0), is-undisturbed tag (next t c) is (p .1))
 is-undisturbed tag t (piece b store ∷ is) h = is-undisturbed tag (next t (taking b store)) is h
 
@@ -108,10 +108,10 @@ record Computed (w : Worked) : Type 0 where
   listed : settingsListed (w .origin .settings) ≡ true
   accepted : openNumber (openCall (reached (w .origin) (w .before)) (w .read) (w .tag) (length (w .store₀)) (length (w .out)) .answer) ≡ 0
   lawful : lawfulCutting (w .origin) (w .tag) (w .read) (pieces (w .between) ++ (w .lastPiece ∷ [])) ≡ true
-  calm : undisturbed (w .tag) (opened w) (w .between) ≡ true
-  same : sameStore (w .read) (opened w) (w .store₀) (calls (w .between) ++ (taking (w .lastPiece) (w .store) ∷ [])) ≡ true
+  undisturbed : allHarmless (w .tag) (afterOpening w) (w .between) ≡ true
+  same : sameStore (w .read) (afterOpening w) (w .store₀) (calls (w .between) ++ (taking (w .lastPiece) (w .store) ∷ [])) ≡ true
   given : answers (newTable (w .origin)) [] (list w) ≡ w .given
-  delivers : windowOf (w .read) (takeStore (run (opened w) (calls (w .between))) (w .lastPiece) (w .store)) ≡ w .window
+  delivers : windowOf (w .read) (takeStore (run (afterOpening w) (calls (w .between))) (w .lastPiece) (w .store)) ≡ w .window
 
 computed : Computed wholeWorked × Computed trimmedWorked
 unfolding run answers newTable stateAt withState tagLimit validTable openCall takeCall takeStore packetTaking packetStore packetAnswer outcome withdrawCall owedCall allBelow
@@ -121,8 +121,8 @@ unfolding run answers newTable stateAt withState tagLimit validTable openCall ta
     completionAt attributesAt plainBad enablesBad pageBad sizeOf bytesCalled digestBytes dataBytes digestAt lengthAt orMost typeAt typeOf accessOf enablesAllowed enabled
     enablesAt total off trail clearBelow clearAbove
 computed = (
-  record { listed = refl; accepted = refl; lawful = refl; calm = refl; same = refl; given = refl; delivers = refl },
-  record { listed = refl; accepted = refl; lawful = refl; calm = refl; same = refl; given = refl; delivers = refl },
+  record { listed = refl; accepted = refl; lawful = refl; undisturbed = refl; same = refl; given = refl; delivers = refl },
+  record { listed = refl; accepted = refl; lawful = refl; undisturbed = refl; same = refl; given = refl; delivers = refl },
 )
 
 premises-of : (w : Worked) → Computed w → Premises w
@@ -130,8 +130,8 @@ premises-of w c = record {
   listed = c .listed;
   accepted = c .accepted;
   lawful = c .lawful;
-  undisturbed = is-undisturbed (w .tag) (opened w) (w .between) (c .calm);
-  same = is-same-store (w .read) (opened w) (w .store₀) (calls (w .between) ++ (taking (w .lastPiece) (w .store) ∷ [])) (c .same);
+  undisturbed = is-undisturbed (w .tag) (afterOpening w) (w .between) (c .undisturbed);
+  same = is-same-store (w .read) (afterOpening w) (w .store₀) (calls (w .between) ++ (taking (w .lastPiece) (w .store) ∷ [])) (c .same);
   answered = c .given;
   delivers = c .delivers;
 }
@@ -140,7 +140,7 @@ pub premises : WorkedHold
 premises = record { whole = premises-of wholeWorked (computed .0); trimmed = premises-of trimmedWorked (computed .1) }
 
 -- what the theorem then says of such a list
-pub delivered : (w : Worked) → Premises w → Delivered (w .read) (w .tag) (opened w) (w .store₀) (w .between) (w .lastPiece) (w .store)
+pub delivered : (w : Worked) → Premises w → Delivered (w .read) (w .tag) (afterOpening w) (w .store₀) (w .between) (w .lastPiece) (w .store)
 delivered w p =
     demand3 (w .origin) (list w) (p .listed) .delivery (w .before) (w .afterwards) (w .read) (w .tag) (w .store₀) (w .out) (w .between) (w .lastPiece) (w .store)
     refl (p .accepted) (p .lawful) (p .undisturbed) (p .same)

@@ -19,7 +19,7 @@ use Rattle.reads.specs.Answers.{openNumber}
 use Rattle.reads.specs.OpenCall.{openCall}
 use Rattle.reads.specs.TakeCall.{takeStore}
 use Rattle.cuttings.specs.Lawful.{lawfulCutting}
-use Rattle.reads_demands.specs.Edges.{reading, longRead, settingsWith}
+use Rattle.reads_demands.specs.Edges.{reading, longRead, originWith}
 use Rattle.reads_demands.specs.History.{Call, opening, taking, withdrawing, asking}
 use Rattle.reads_demands.specs.History.{History, openEvent, takeEvent, withdrawEvent, owedEvent}
 use Rattle.reads_demands.specs.Demand3.{next, run, answers, reached}
@@ -48,8 +48,8 @@ list w =
     ∷ (calls (w .between) ++ (taking (w .lastPiece) (w .store) ∷ w .afterwards)))
 
 -- the table after the opening
-abbrev pub opened : Worked → Table
-opened w = next (reached (w .origin) (w .before)) (opening (w .read) (w .tag) (w .store₀) (w .out))
+abbrev pub afterOpening : Worked → Table
+afterOpening w = next (reached (w .origin) (w .before)) (opening (w .read) (w .tag) (w .store₀) (w .out))
 
 -- the bytes of a read's window
 abbrev pub windowOf : ReadRequest → List ℕ → List ℕ
@@ -61,11 +61,11 @@ pub record Premises (w : Worked) : Type 0 where
   pub accepted : openNumber (openCall (reached (w .origin) (w .before)) (w .read) (w .tag) (length (w .store₀))
       (length (w .out)) .answer) ≡ 0
   pub lawful : lawfulCutting (w .origin) (w .tag) (w .read) (pieces (w .between) ++ (w .lastPiece ∷ [])) ≡ true
-  pub undisturbed : Undisturbed (w .tag) (opened w) (w .between)
-  pub same : SameStore (w .read) (opened w) (w .store₀)
+  pub undisturbed : Undisturbed (w .tag) (afterOpening w) (w .between)
+  pub same : SameStore (w .read) (afterOpening w) (w .store₀)
       (calls (w .between) ++ (taking (w .lastPiece) (w .store) ∷ []))
   pub answered : answers (newTable (w .origin)) [] (list w) ≡ w .given
-  pub delivers : windowOf (w .read) (takeStore (run (opened w) (calls (w .between))) (w .lastPiece) (w .store))
+  pub delivers : windowOf (w .read) (takeStore (run (afterOpening w) (calls (w .between))) (w .lastPiece) (w .store))
       ≡ w .window
 
 -- a store: before the window four bytes, which others may write; then the rest
@@ -106,7 +106,7 @@ rest₂ = replicate 96 1 ++ (replicate 128 2 ++ replicate 36 9)
 
 abbrev pub wholeWorked : Worked
 wholeWorked = record {
-  origin = record { settings = settingsWith 128; requester = 0x0100 };
+  origin = originWith 128;
   before = withdrawing 5 ∷ [];
   read = wholeRead;
   tag = 5;
@@ -186,7 +186,7 @@ rest₂₂ =
 
 abbrev pub trimmedWorked : Worked
 trimmedWorked = record {
-  origin = record { settings = settingsWith 64; requester = 0x0100 };
+  origin = originWith 64;
   before = asking ∷ [];
   read = trimmedRead;
   tag = 5;

@@ -1,6 +1,6 @@
 -- A table lent over its life: every call finds it as the last one left it. Such a run can be split at any call, and is
--- the core's run: the same answers, tables, stores and outputs. To be believed are `Leaves`, `Made`, `Lent`, and what a
--- run left: `callsOf`, `tableAfter`, `historyOf`. The theorems are `LeavesAsCore`, `LentSplits`, `LentRuns`,
+-- the core's run: the same answers, tables, stores and outputs. To be believed are `Leaves`, `LentCall`, `Lent`, and
+-- what a run left: `callsOf`, `tableAfter`, `historyOf`. The theorems are `LeavesAsCore`, `LentSplits`, `LentRuns`,
 -- `LentAsCore`; demand 3 of such a run is in LentDemand3.
 use Prim.Native.Nat.{ℕ}
 use mathlib.Core.Path.{_≡_}
@@ -33,7 +33,7 @@ pub data Leaves : Table → Call → Event → Table → Option (List ℕ) → L
   asks : {t : Table} {x : OwedAnswer} → OwedLeaves t x → Leaves t asking (owedEvent x) t none []
 
 -- a call on a lent table as it was made: its answer, and the table, store and output that it left
-pub record Made : Type 0 where
+pub record LentCall : Type 0 where
   pub call : Call
   pub event : Event
   pub table : Table
@@ -41,62 +41,62 @@ pub record Made : Type 0 where
   pub out : List ℕ
 
 -- made on a table t, by its contract
-abbrev pub LeftBy : Table → Made → Type 0
+abbrev pub LeftBy : Table → LentCall → Type 0
 LeftBy t m = Leaves t (m .call) (m .event) (m .table) (m .store) (m .out)
 
 -- calls made on a table one after the other, each on the table as the last one left it
-abbrev pub Lent : Table → List Made → Type 0
+abbrev pub Lent : Table → List LentCall → Type 0
 Lent t [] = Unit {0}
 Lent t (m ∷ ms) = LeftBy t m × Lent (m .table) ms
 
 -- ---- what is seen of a run: its calls; the table afterwards, as the last one left it; its answers, the newest first
-abbrev pub callsOf : List Made → List Call
+abbrev pub callsOf : List LentCall → List Call
 callsOf [] = []
 callsOf (m ∷ ms) = m .call ∷ callsOf ms
 
-abbrev pub tableAfter : Table → List Made → Table
+abbrev pub tableAfter : Table → List LentCall → Table
 tableAfter t [] = t
 tableAfter t (m ∷ ms) = tableAfter (m .table) ms
 
-abbrev pub historyAfter : History → List Made → History
+abbrev pub historyAfter : History → List LentCall → History
 historyAfter h [] = h
 historyAfter h (m ∷ ms) = historyAfter (m .event ∷ h) ms
 
-abbrev pub historyOf : List Made → History
+abbrev pub historyOf : List LentCall → History
 historyOf ms = historyAfter [] ms
 
 -- ---- a run is split at any call, and put together again: a run of the calls before, the call on the table that they
 -- left, and a run of the rest on the table that it left
-pub record Split (t : Table) (before : List Made) (m : Made) (rest : List Made) : Type 0 where
+pub record Split (t : Table) (before : List LentCall) (m : LentCall) (rest : List LentCall) : Type 0 where
   pub earlier : Lent t before
   pub here : LeftBy (tableAfter t before) m
   pub later : Lent (m .table) rest
 
 abbrev pub LentSplits : Type 0
-LentSplits = (t : Table) (before : List Made) (m : Made) (rest : List Made)
+LentSplits = (t : Table) (before : List LentCall) (m : LentCall) (rest : List LentCall)
     → Lent t (before ++ (m ∷ rest)) ↔ Split t before m rest
 
 -- ---- a call, and calls, as the core makes them
-abbrev pub coreMade : Table → Call → Made
-coreMade t c = record { call = c; event = answered t c; table = next t c; store = left t c; out = outputLeft t c }
+abbrev pub coreCall : Table → Call → LentCall
+coreCall t c = record { call = c; event = answered t c; table = next t c; store = left t c; out = outputLeft t c }
 
-abbrev pub coreRun : Table → List Call → List Made
+abbrev pub coreRun : Table → List Call → List LentCall
 coreRun t [] = []
-coreRun t (c ∷ cs) = coreMade t c ∷ coreRun (next t c) cs
+coreRun t (c ∷ cs) = coreCall t c ∷ coreRun (next t c) cs
 
 -- what a call on a lent table answers and leaves is what the core answers and leaves
 abbrev pub LeavesAsCore : Type 0
-LeavesAsCore = (t : Table) (m : Made) → LeftBy t m → m ≡ coreMade t (m .call)
+LeavesAsCore = (t : Table) (m : LentCall) → LeftBy t m → m ≡ coreCall t (m .call)
 
 -- every list of calls has a run
 abbrev pub LentRuns : Type 0
 LentRuns = (t : Table) (cs : List Call) → Lent t (coreRun t cs) × (callsOf (coreRun t cs) ≡ cs)
 
 -- and each run is the core's: call by call, in its table afterwards and in its answers
-pub record AsCore (t : Table) (ms : List Made) : Type 0 where
-  pub made : ms ≡ coreRun t (callsOf ms)
+pub record AsCore (t : Table) (ms : List LentCall) : Type 0 where
+  pub calls : ms ≡ coreRun t (callsOf ms)
   pub table : tableAfter t ms ≡ run t (callsOf ms)
   pub history : (h : History) → historyAfter h ms ≡ answers t h (callsOf ms)
 
 abbrev pub LentAsCore : Type 0
-LentAsCore = (t : Table) (ms : List Made) → Lent t ms → AsCore t ms
+LentAsCore = (t : Table) (ms : List LentCall) → Lent t ms → AsCore t ms
