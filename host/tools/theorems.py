@@ -13,7 +13,9 @@ import re
 
 ROOT = os.path.dirname(os.path.dirname(os.path.dirname(os.path.abspath(__file__))))
 STATED = re.compile(r"(?m)^(?:(?:abbrev|unfoldable) pub|pub record) (\w+) : Type 0(?: where)?$")
-DATA = {"Case", "Decoding", "Edge", "History", "LentCall", "PacketText", "Records", "Row", "Said", "Stage", "Stepping", "Worked"}
+DATA = {
+    "Case", "Decoding", "Edge", "History", "LentCall", "PacketText", "Records", "Row", "Said", "Stage", "Stepping", "Worked",
+}
 # A name of several words, or of one with a number: `ReadExactly`, `Demand1`. One word alone is a type or a case.
 NAME = re.compile(r"`([A-Z][a-z]+(?:[A-Z][a-z]+|\d+)+)`")
 PARAGRAPH = re.compile(r"(?s) \* What is proved.*?\n \*\n")
