@@ -26,12 +26,8 @@ use Rattle.capture_blocks.proofs.CallReturns.{step-done, step-done-outp
 
 -- ---- an answer that is a step
 
-module _ (r : BlockAnswer) (step : Step) (e : r ≡ Stepped step) where
-  pub never-refused : (number : ℕ) → r ≡ BlockRefused number → ⊥
-  never-refused number u = let z : _≡_ {A = ℕ} 0 1 = cc in omega arith
-
-  pub that-step : (other : Step) → r ≡ Stepped other → other ≡ step
-  that-step other u = cc
+pub never-refused : (r : BlockAnswer) (step : Step) → r ≡ Stepped step → (number : ℕ) → r ≡ BlockRefused number → ⊥
+never-refused r step e number u = let z : _≡_ {A = ℕ} 0 1 = cc in omega arith
 
 -- ---- decode_block
 
@@ -56,6 +52,12 @@ module _ (p : Progress) (rest out : List ℕ) (room : printedEach ≤ length out
 
 -- ---- the end of the input with the totals: how long it is at most
 
+abbrev totalsMost : ℕ
+totalsMost = 144
+
+abbrev pub lastMost : ℕ
+lastMost = printedEach + totalsMost
+
 tail-most : (rest : List ℕ) → length (tailDecoded rest .output) ≤ printedEach
 unfolding tailDecoded outputLine
 tail-most [] = omega arith
@@ -68,13 +70,13 @@ end-most (Lines settings) rest = tail-most rest
 end-most (Skipping settings) rest = omega arith
 end-most Refused rest = omega arith
 
-totals-by : (t : Bool) (lines refused : ℕ) → length (pick t (totalsLine lines refused) []) ≤ 144
+totals-by : (t : Bool) (lines refused : ℕ) → length (pick t (totalsLine lines refused) []) ≤ totalsMost
 totals-by true lines refused = totals-most lines refused
 totals-by false lines refused = omega arith
 
 -- ---- decode_end, and put_totals_of behind it
 
-module _ (p : Progress) (rest out : List ℕ) (room : 152 ≤ length out) (step : Step) (e : step ≡ stepIn (ending p rest) (length rest)) (out1 : List ℕ) (o : out1 ≡ endOver p rest out)
+module _ (p : Progress) (rest out : List ℕ) (room : lastMost ≤ length out) (step : Step) (e : step ≡ stepIn (ending p rest) (length rest)) (out1 : List ℕ) (o : out1 ≡ endOver p rest out)
     (lines refused all bad : ℕ) (l : all ≡ lines + step .lines) (b : bad ≡ refused + step .refused) where
   abbrev text : List ℕ
   text = endOf p rest .output

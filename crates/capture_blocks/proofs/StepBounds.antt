@@ -113,7 +113,7 @@ module _ (step : Step) (size most : ℕ) (v : Stepping) (g : Bounded size most v
 
 -- of decode_block
 module _ (p : Progress) (bytes out : List ℕ) (r : BlockAnswer) (d : r ≡ stepAnswer p bytes out) (step : Step) (u : r ≡ Stepped step) where
-  block-step : step ≡ stepIn (stepOf p bytes) (length bytes)
+  pub block-step : step ≡ stepIn (stepOf p bytes) (length bytes)
   unfolding stepAnswer
   block-step = stepped-by step (stepOf p bytes) (length bytes) (hasRoom (length bytes) out) (sym u ∙ d)
 
@@ -129,7 +129,7 @@ module _ (p : Progress) (bytes out : List ℕ) (r : BlockAnswer) (d : r ≡ step
 
 -- of decode_end
 module _ (p : Progress) (rest out : List ℕ) (r : BlockAnswer) (d : r ≡ endAnswer p rest out) (step : Step) (u : r ≡ Stepped step) where
-  end-step : step ≡ stepIn (ending p rest) (length rest)
+  pub end-step : step ≡ stepIn (ending p rest) (length rest)
   unfolding endAnswer
   end-step = stepped-by step (ending p rest) (length rest) (hasRoom 1 out) (sym u ∙ d)
 

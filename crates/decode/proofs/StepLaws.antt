@@ -16,8 +16,8 @@ use Rattle.capture_blocks.specs.Answers.{stepIn, ending, stepAnswer, stepOver, 
 use Rattle.capture_blocks.specs.declared.Step.{Step}
 use Rattle.capture_blocks.specs.declared.BlockAnswer.{BlockAnswer}
 use Rattle.capture_blocks.specs.declared.BlockAnswer.the-variants.{Stepped, Refused}
-use Rattle.capture_blocks.proofs.StepBounds.{step-bounded, end-bounded}
-use Rattle.capture_blocks.proofs.RoomAnswers.{never-refused, that-step, block-answer, block-output, end-answer, last-length, last-laid}
+use Rattle.capture_blocks.proofs.StepBounds.{step-bounded, block-step, block-used, block-within, block-refused, end-step, end-lines, end-refused}
+use Rattle.capture_blocks.proofs.RoomAnswers.{never-refused, block-answer, block-output, end-answer, lastMost, last-length, last-laid}
 use Rattle.decode.specs.Turns.{advancedRun, afterStep, keptBytes, stepText, endText}
 use Rattle.decode.specs.Inner.Sizes.{inputRoom, outputRoom, Counted}
 use Rattle.decode.specs.declared.run.Run.{Run}
@@ -45,66 +45,51 @@ module _ (run : Run) (buf out : List ℕ) (n : ℕ) (h : n ≤ length buf) (few 
   fits : printedEach * length bytes ≤ length out
   fits = omega (arith, size, few, room)
 
-  answer : r ≡ Stepped (stepIn (stepOf (run .progress) bytes) (length bytes))
-  answer = d ∙ block-answer (run .progress) bytes out fits
-
   -- there is room
   pub step-never : (number : ℕ) → r ≡ Refused number → ⊥
-  step-never = never-refused r (stepIn (stepOf (run .progress) bytes) (length bytes)) answer
+  step-never = never-refused r (stepIn (stepOf (run .progress) bytes) (length bytes)) (d ∙ block-answer (run .progress) bytes out fits)
 
   module _ (step : Step) (u : r ≡ Stepped step) where
-    is : step ≡ stepIn (stepOf (run .progress) bytes) (length bytes)
-    is = that-step r (stepIn (stepOf (run .progress) bytes) (length bytes)) answer step u
+    stepped : step ≡ stepIn (stepOf (run .progress) bytes) (length bytes)
+    stepped = block-step (run .progress) bytes out r d step u
 
     pub step-used : step .used ≤ n
-    step-used = rw is (omega (arith, size))
+    step-used = omega (arith, size, block-used (run .progress) bytes out r d step u)
 
-    pub step-lines : step .lines ≤ inputRoom
-    step-lines = rw is (omega (arith, size, few, step-bounded (run .progress) bytes .few))
-
-    pub step-refused : step .refused ≤ step .lines
-    step-refused = rw is (step-bounded (run .progress) bytes .fewer)
+    pub step-few : step .lines ≤ inputRoom
+    step-few = omega (arith, few, step-used, block-within (run .progress) bytes out r d step u)
 
     left : n - step .used ≡ stepOf (run .progress) bytes .left
-    left = rw is (omega (arith, size, step-bounded (run .progress) bytes .inside))
+    left = rw stepped (omega (arith, size, step-bounded (run .progress) bytes .inside))
 
     pub step-text : (out1 : List ℕ) → out1 ≡ stepOver (run .progress) bytes out → part out1 0 (step .written) ≡ stepText (run .progress) bytes
     unfolding stepText
-    step-text out1 o = rw (o, block-output (run .progress) bytes out fits, is) (front-put (stepOf (run .progress) bytes .decoding .output) out)
+    step-text out1 o = rw (o, block-output (run .progress) bytes out fits, stepped) (front-put (stepOf (run .progress) bytes .decoding .output) out)
 
     module _ (after : Run) (a : after ≡ advancedRun run (step .progress) (n - step .used) (step .lines) (step .refused)) where
       pub step-run : after ≡ afterStep run bytes
       unfolding afterStep
-      step-run = a ∙ rw (left, is)
+      step-run = a ∙ rw (left, stepped)
 
       pub step-kept : (buf1 : List ℕ) → buf1 ≡ movedToFront (step .used) n buf → part buf1 0 (after .kept) ≡ keptBytes (run .progress) bytes
       unfolding keptBytes
       step-kept buf1 m =
           let e : after .kept ≡ n - step .used = ap (λ (x : Run). x .kept) a in
-          let k : step .used ≡ length bytes - stepOf (run .progress) bytes .left = ap (λ (x : Step). x .used) is in
+          let k : step .used ≡ length bytes - stepOf (run .progress) bytes .left = ap (λ (x : Step). x .used) stepped in
           rw (e, m) (front-moved (step .used) n buf step-used h) ∙ ap (λ (i : ℕ). drop i bytes) k
 
-pub ruleset step-laws = (step-never, step-used, step-lines, step-refused, step-text, step-run, step-kept)
+pub ruleset step-laws = (step-never, step-used, step-few, block-refused, step-text, step-run, step-kept)
 
 -- ---- lay_end
 
 module _ (run : Run) (rest out : List ℕ) (room : length out ≡ outputRoom) (r : BlockAnswer) (d : r ≡ endAnswer (run .progress) rest out) where
-  ended : r ≡ Stepped (stepIn (ending (run .progress) rest) (length rest))
-  ended = d ∙ end-answer (run .progress) rest out (omega (arith, room))
-
   -- there is room
   pub end-never : (number : ℕ) → r ≡ Refused number → ⊥
-  end-never = never-refused r (stepIn (ending (run .progress) rest) (length rest)) ended
+  end-never = never-refused r (stepIn (ending (run .progress) rest) (length rest)) (d ∙ end-answer (run .progress) rest out (omega (arith, room)))
 
   module _ (step : Step) (u : r ≡ Stepped step) where
-    that : step ≡ stepIn (ending (run .progress) rest) (length rest)
-    that = that-step r (stepIn (ending (run .progress) rest) (length rest)) ended step u
-
-    pub end-lines : step .lines ≤ inputRoom
-    end-lines = rw that (omega (arith, end-bounded (run .progress) rest .few))
-
-    pub end-refused : step .refused ≤ step .lines
-    end-refused = rw that (end-bounded (run .progress) rest .fewer)
+    pub end-few : step .lines ≤ inputRoom
+    end-few = omega (arith, end-lines (run .progress) rest out r d step u)
 
     pub end-text : (last : Run) → last ≡ advancedRun run (step .progress) 0 (step .lines) (step .refused) → (out1 : List ℕ) → out1 ≡ endOver (run .progress) rest out
         → (written : ℕ) → written ≡ after (step .written) (totalsOf (run .progress) (last .lines) (last .refused)) out1
@@ -115,8 +100,10 @@ module _ (run : Run) (rest out : List ℕ) (room : length out ≡ outputRoom) (r
         let text = lastText (run .progress) (endOf (run .progress) rest) (run .lines) (run .refused) in
         let l : last .lines ≡ run .lines + step .lines = ap (λ (x : Run). x .lines) a in
         let b : last .refused ≡ run .refused + step .refused = ap (λ (x : Run). x .refused) a in
-        let n : written ≡ length text = last-length (run .progress) rest out (omega (arith, room)) step that out1 o (run .lines) (run .refused) (last .lines) (last .refused) l b written w in
-        let m : out2 ≡ put 0 text out = last-laid (run .progress) rest out (omega (arith, room)) step that out1 o (run .lines) (run .refused) (last .lines) (last .refused) l b out2 f in
+        let fits : lastMost ≤ length out = omega (arith, room) in
+        let stepped = end-step (run .progress) rest out r d step u in
+        let n : written ≡ length text = last-length (run .progress) rest out fits step stepped out1 o (run .lines) (run .refused) (last .lines) (last .refused) l b written w in
+        let m : out2 ≡ put 0 text out = last-laid (run .progress) rest out fits step stepped out1 o (run .lines) (run .refused) (last .lines) (last .refused) l b out2 f in
         rw (n, m) (front-put text out)
 
-pub ruleset end-laws = (end-never, end-lines, end-refused, end-text)
+pub ruleset end-laws = (end-never, end-few, end-refused, end-text)

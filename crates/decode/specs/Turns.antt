@@ -1,6 +1,6 @@
 -- What the program does, turn by turn: each turn reads once, behind the bytes that are kept, decodes and prints. What a
--- reader must believe: all of it. That the printed text is the decoding of the input is the theorem PrintsDecoding.
-use Prim.Native.Nat.{ℕ, suc, _+_, _-_}
+-- reader must believe: all of it. That the texts, joined, are the decoding of the input is the theorem PrintsDecoding.
+use Prim.Native.Nat.{ℕ, zero, suc, _+_, _-_}
 use mathlib.Core.Path.{_≡_}
 use mathlib.Core.Bool.{Bool, true, false}
 use mathlib.Core.List.{List, [], _∷_, _++_}
@@ -8,7 +8,7 @@ use lib.IntN.{ℤ, pos, negsuc}
 use lib.ListN.{length, drop}
 use Rattle.bits.specs.Choice.{pick}
 use Rattle.text.specs.Words.{part}
-use Rattle.capture_blocks.specs.Blocks.{stepOf, endOf, lastText}
+use Rattle.capture_blocks.specs.Blocks.{stepOf, endOf, lastText, joined}
 use Rattle.capture_blocks.specs.declared.Progress.{Progress}
 use Rattle.capture_blocks.specs.declared.Progress.the-variants.{First, Lines, Skipping, Refused}
 use Rattle.decode.specs.declared.run.Run.{Run}
@@ -96,24 +96,26 @@ nextStage stage block = record {
   kept = keptBytes (stage .run .progress) (stage .kept ++ block);
 }
 
+-- what it gives
+abbrev pub nextText : Stage → List ℕ → List ℕ
+nextText stage block = stepText (stage .run .progress) (stage .kept ++ block)
+
 -- these blocks were read, one a turn: no more than are asked for
 unfoldable pub stageAfter : Stage → List (List ℕ) → Stage
 stageAfter stage [] = stage
 stageAfter stage (block ∷ blocks) = pick (stage .run .more) (stageAfter (nextStage stage block) blocks) stage
 
--- what is printed on the way
-unfoldable pub textAfter : Stage → List (List ℕ) → List ℕ
-textAfter stage [] = []
-textAfter stage (block ∷ blocks) =
+-- the texts in turn, when read gives these blocks and then the end of the input: one a block, as long as more are asked
+-- for, and then the end's
+unfoldable pub texts : Stage → List (List ℕ) → List (List ℕ)
+texts stage [] = endText (stage .run) (stage .kept) ∷ []
+texts stage (block ∷ blocks) =
     pick (stage .run .more)
-    (stepText (stage .run .progress) (stage .kept ++ block) ++ textAfter (nextStage stage block) blocks)
-    []
+    (nextText stage block ∷ texts (nextStage stage block) blocks)
+    (endText (stage .run) (stage .kept) ∷ [])
 
--- what is printed when read gives these blocks in turn, and then the end of the input
 unfoldable pub printed : List (List ℕ) → List ℕ
-printed blocks =
-    let last = stageAfter firstStage blocks in
-    textAfter firstStage blocks ++ endText (last .run) (last .kept)
+printed blocks = joined (texts firstStage blocks)
 
 -- ---- what the system's calls decide
 
@@ -122,19 +124,23 @@ abbrev pub countOf : ℤ → ℕ
 countOf (pos n) = n
 countOf (negsuc n) = 0
 
--- the stage after a turn, by what read answered: it failed; the input is at its end; it gave a block, which was decoded
--- and printed; or the write of what the block gave failed
-pub data Turned (stage : Stage) (block : List ℕ) : ℤ → Stage → Type 0 where
-  failed : (n : ℕ) → Turned stage block (negsuc n) stoppedStage
-  ended : Turned stage block (pos 0) (endedStage stage)
-  stepped : (n : ℕ) → Turned stage block (pos (suc n)) (nextStage stage block)
-  unwritten : (n : ℕ) → Turned stage block (pos (suc n)) stoppedStage
+-- the block: those bytes, behind the kept ones
+abbrev pub blockIn : Run → List ℕ → ℤ → List ℕ
+blockIn run buf answered = part buf (run .kept) (run .kept + countOf answered)
 
--- a turn of which nothing is known but that the system answered, and what it laid
-pub record Turn (stage after : Stage) : Type 0 where
-  pub answered : ℤ
-  pub block : List ℕ
-  pub turned : Turned stage block answered after
+-- by what read answered: it failed; the input is at its end; it gave a block
+abbrev pub byRead : {A : Type 0} → A → A → A → ℤ → A
+byRead failed ended gave (negsuc n) = failed
+byRead failed ended gave (pos zero) = ended
+byRead failed ended gave (pos (suc n)) = gave
+
+-- the stage after a turn
+abbrev pub stageRead : Stage → List ℕ → ℤ → Stage
+stageRead stage block answered = byRead stoppedStage (endedStage stage) (nextStage stage block) answered
+
+-- and what is printed in it
+abbrev pub textRead : Stage → List ℕ → ℤ → List ℕ
+textRead stage block answered = byRead [] [] (nextText stage block) answered
 
 -- where the program can stand: it read some blocks, and perhaps came to the end of the input; or a call failed
 pub data Reached (stage : Stage) : Type 0 where
@@ -142,8 +148,10 @@ pub data Reached (stage : Stage) : Type 0 where
   done : (blocks : List (List ℕ)) → stage ≡ endedStage (stageAfter firstStage blocks) → Reached stage
   stopped : stage ≡ stoppedStage → Reached stage
 
--- what it may print there: what a block more gives, or the end
-pub data Prints (text : List ℕ) : Type 0 where
-  step : (stage : Stage) (block : List ℕ) → Reached stage → stage .run .more ≡ true
-      → text ≡ stepText (stage .run .progress) (stage .kept ++ block) → Prints text
-  end : (stage : Stage) → Reached stage → text ≡ endText (stage .run) (stage .kept) → Prints text
+-- what it may print, with the run to go on with: a turn's text, at a stage that asks for more; or the end's, after which
+-- no more is asked for
+pub data Prints (after : Run) (text : List ℕ) : Type 0 where
+  turn : (stage : Stage) (block : List ℕ) (answered : ℤ) → Reached stage → stage .run .more ≡ true
+      → after ≡ stageRead stage block answered .run → text ≡ textRead stage block answered → Prints after text
+  end : (stage : Stage) → Reached stage → after ≡ endedRun (stage .run) → text ≡ endText (stage .run) (stage .kept)
+      → Prints after text

@@ -4,15 +4,17 @@ mod step;
 mod turn;
 
 use crate::run::first_run;
+use crate::step::lay_read;
 use crate::turn::finish;
-use crate::turn::take_turn;
+use crate::turn::print;
+use crate::turn::read_block;
 ghost use mathlib.Core.Path.{_≡_};
 ghost use lib.ListN.{length};
 ghost use Rattle.decode.specs.Inner.Sizes.{outputRoom};
 
 // A proved loop has to end. 2 to the power 47 turns of at most 65,536 lines give at most 2 to the power 63, so that no
 // sum overflows. Each turn reads at least one byte, so that they are not used up: even byte by byte they last for 128
-// TiB.
+// TiB. Were they used up, the input would end there: what is printed is the decoding of what was read.
 const TURNS: u64 = 140737488355328;
 
 // PRINTED_EACH bytes for each byte of the input's buffer: what decode_block asks for.
@@ -30,7 +32,9 @@ fn main() {
     let mut run = first_run();
     let mut turns: u64 = TURNS;
     while 0 < turns {
-        run = take_turn(run, &mut buf, &mut out);
+        let answered = read_block(run.kept, &mut buf);
+        let laid = lay_read(run, answered, &mut buf, &mut out);
+        run = print(laid, &out);
         if run.more {
             turns -= 1;
         } else {

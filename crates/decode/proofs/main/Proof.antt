@@ -1,15 +1,17 @@
+use mir.Syntax.{w64}
+use mir.Val.{ofZ, toZ}
 use native.Mathlib.Omega.{arith}
-use Rattle.decode.specs.declared.run.Run.{Run}
-use Rattle.decode.proofs.TurnLaws.{first-counted, reached-first, reached-next}
-use borrow.Author.Needs.{needs}
-use Prim.Native.Nat.{_+_, _*_, _≤_, _<_}
-use mathlib.Core.Path.{_≡_, ap}
+use Prim.Native.Nat.{_+_, _-_, _*_, _≤_, _<_}
+use mathlib.Core.Path.{_≡_, ap, _∙_}
 use mathlib.Core.Bool.{true}
 use lib.ListN.{length}
+use borrow.Author.Needs.{needs}
+use Rattle.decode.specs.Turns.{firstRun, stageIn, Reached}
+use Rattle.decode.specs.Inner.Sizes.{inputRoom, outputRoom, linesMost, Counted}
+use Rattle.decode.specs.declared.run.Run.{Run}
+use Rattle.decode.proofs.TurnLaws.{none-counted, first-reached, kept-within, moved-held, prints-turn, turn-reached, turn-counted}
 use Rattle.decode.proofs.main.Statement.{statement}
 use Rattle.decode.proofs.main.Tie as tie
-use Rattle.decode.specs.Turns.{stageIn, Reached}
-use Rattle.decode.specs.Inner.Sizes.{inputRoom, outputRoom, linesMost, Counted}
 
 abbrev Inv-loop : tie.InvT-loop
 Inv-loop buf₀ out₀ run₀ turns₀ buf out run turns =
@@ -33,18 +35,42 @@ loop-holds : tie.Need-loop-holds Inv-loop μ-loop
 loop-holds c =
     let first = c .first-run in
     let lines : first .result .lines ≡ 0 = ap (λ (r : Run). r .lines) (first .ensures) in
-    (search needs, (search needs, (omega arith, (first-counted linesMost (first .result) (first .ensures), (λ _. ap (λ (r : Run). r .more) (first .ensures), reached-first (first .result) _ (first .ensures))))))
+    (search needs, (search needs, (omega arith, (none-counted linesMost (firstRun .progress) true (first .result) (first .ensures), (λ _. ap (λ (r : Run). r .more) (first .ensures), first-reached (first .result) _ (first .ensures))))))
 
-slice-aggregate-take-turn : tie.Need-slice-aggregate-take-turn Inv-loop μ-loop
-slice-aggregate-take-turn c = search needs
+slice-aggregate-read-block : tie.Need-slice-aggregate-read-block Inv-loop μ-loop
+slice-aggregate-read-block c = search needs
 
-slice-aggregate-take-turn-2 : tie.Need-slice-aggregate-take-turn-2 Inv-loop μ-loop
-slice-aggregate-take-turn-2 c = search needs
+read-block-requires : tie.Need-read-block-requires Inv-loop μ-loop
+read-block-requires c κs =
+    let loop = c .before .before .loop in
+    (kept-within linesMost (loop .run) (loop .buf) (loop .inv .1 .1 .1 .0) (loop .inv .0), loop .inv .0)
 
-take-turn-requires : tie.Need-take-turn-requires Inv-loop μ-loop
-take-turn-requires c κs =
-    let inv = c .before .before .before .loop .inv in
-    record { input = inv .0; output = inv .1 .0; counted = inv .1 .1 .1 .0; reached = inv .1 .1 .1 .1 .1; more = inv .1 .1 .1 .1 .0 (c .before .before .loop-test .taken) }
+slice-aggregate-lay-read : tie.Need-slice-aggregate-lay-read Inv-loop μ-loop
+slice-aggregate-lay-read c = search needs
+
+slice-aggregate-lay-read-2 : tie.Need-slice-aggregate-lay-read-2 Inv-loop μ-loop
+slice-aggregate-lay-read-2 c = search needs
+
+lay-read-requires : tie.Need-lay-read-requires Inv-loop μ-loop
+lay-read-requires c κs =
+    let loop = c .before .before .before .before .before .before .loop in
+    let read = c .before .before .before .read-block in
+    let same : length (read .last .1 .0) ≡ length (loop .buf) = search needs in
+    let few : length (read .last .1 .0) - loop .run .kept ≤ inputRoom = omega (arith, same, loop .inv .0) in
+    let answer = moved-held (length (loop .buf) - loop .run .kept) (length (read .last .1 .0) - loop .run .kept) (read .result) (omega (arith, same)) few (read .ensures .0) in
+    (record { input = same ∙ loop .inv .0; output = loop .inv .1 .0; counted = loop .inv .1 .1 .1 .0 }, answer)
+
+slice-aggregate-print : tie.Need-slice-aggregate-print Inv-loop μ-loop
+slice-aggregate-print c = search needs
+
+print-requires : tie.Need-print-requires Inv-loop μ-loop
+print-requires c κs =
+    let loop = c .before .before .before .before .before .before .before .before .before .before .loop in
+    let test = c .before .before .before .before .before .before .before .before .before .loop-test in
+    let read = c .before .before .before .before .before .before .before .read-block in
+    let lay = c .before .before .before .lay-read in
+    prints-turn (loop .run) (loop .buf) (read .last .1 .0) (lay .last .1 .1 .0) (toZ w64 (ofZ w64 (read .result))) (lay .result .run) (loop .inv .1 .1 .1 .1 .1) (loop .inv .1 .1 .1 .1 .0 (test .taken)) (read .ensures .1)
+    (lay .ensures .0) _ (lay .ensures .1 .0)
 
 sub-turns : tie.Need-sub-turns Inv-loop μ-loop
 sub-turns c = search needs
@@ -54,20 +80,34 @@ loop-less c = search needs
 
 loop-again : tie.Need-loop-again Inv-loop μ-loop
 loop-again c =
-    let at = c .before .before .before .before .before .before .before .loop in
-    let turn = c .before .before .before .take-turn in
-    let counted : Counted linesMost (turn .result) = record { kept = turn .ensures .1 .kept; lines = omega arith; refused = turn .ensures .1 .refused } in
-    (search needs, (search needs, (omega arith, (counted, (λ _. c .if1 .taken, reached-next _ _ (at .inv .1 .1 .1 .1 .1) (at .inv .1 .1 .1 .1 .0 (c .before .before .before .before .before .before .loop-test .taken)) (turn .ensures .0))))))
+    let loop = c .before .before .before .before .before .before .before .before .before .before .before .before .loop in
+    let test = c .before .before .before .before .before .before .before .before .before .before .before .loop-test in
+    let read = c .before .before .before .before .before .before .before .before .before .read-block in
+    let lay = c .before .before .before .before .before .lay-read in
+    let print = c .before .print in
+    let within = turn-counted _ (lay .result .run) (print .result) (lay .ensures .1 .1) (print .ensures) in
+    let counted : Counted linesMost (print .result) = record { kept = within .kept; lines = omega arith; refused = within .refused } in
+    let reached =
+    turn-reached (loop .run) (loop .buf) (read .last .1 .0) (lay .last .1 .1 .0) (toZ w64 (ofZ w64 (read .result))) (lay .result .run) (loop .inv .1 .1 .1 .1 .1) (loop .inv .1 .1 .1 .1 .0 (test .taken)) (read .ensures .1)
+    (lay .ensures .0) (print .result) (print .ensures) in
+    (search needs, (search needs, (omega arith, (counted, (λ _. c .if1 .taken, reached)))))
 
 loop-less-2 : tie.Need-loop-less-2 Inv-loop μ-loop
 loop-less-2 c = search needs
 
 loop-again-2 : tie.Need-loop-again-2 Inv-loop μ-loop
 loop-again-2 c =
-    let at = c .before .before .before .before .before .before .before .loop in
-    let turn = c .before .before .before .take-turn in
-    let counted : Counted linesMost (turn .result) = record { kept = turn .ensures .1 .kept; lines = omega arith; refused = turn .ensures .1 .refused } in
-    (search needs, (search needs, (omega arith, (counted, (λ (h : 0 < 0). absurd (omega (arith, h)), reached-next _ _ (at .inv .1 .1 .1 .1 .1) (at .inv .1 .1 .1 .1 .0 (c .before .before .before .before .before .before .loop-test .taken)) (turn .ensures .0))))))
+    let loop = c .before .before .before .before .before .before .before .before .before .before .before .before .loop in
+    let test = c .before .before .before .before .before .before .before .before .before .before .before .loop-test in
+    let read = c .before .before .before .before .before .before .before .before .before .read-block in
+    let lay = c .before .before .before .before .before .lay-read in
+    let print = c .before .print in
+    let within = turn-counted _ (lay .result .run) (print .result) (lay .ensures .1 .1) (print .ensures) in
+    let counted : Counted linesMost (print .result) = record { kept = within .kept; lines = omega arith; refused = within .refused } in
+    let reached =
+    turn-reached (loop .run) (loop .buf) (read .last .1 .0) (lay .last .1 .1 .0) (toZ w64 (ofZ w64 (read .result))) (lay .result .run) (loop .inv .1 .1 .1 .1 .1) (loop .inv .1 .1 .1 .1 .0 (test .taken)) (read .ensures .1)
+    (lay .ensures .0) (print .result) (print .ensures) in
+    (search needs, (search needs, (omega arith, (counted, (λ (h : 0 < 0). absurd (omega (arith, h)), reached)))))
 
 slice-aggregate-finish : tie.Need-slice-aggregate-finish Inv-loop μ-loop
 slice-aggregate-finish c = search needs
@@ -91,9 +131,13 @@ main-spec =
     output-buffer-requires
     first-run-requires
     loop-holds
-    slice-aggregate-take-turn
-    slice-aggregate-take-turn-2
-    take-turn-requires
+    slice-aggregate-read-block
+    read-block-requires
+    slice-aggregate-lay-read
+    slice-aggregate-lay-read-2
+    lay-read-requires
+    slice-aggregate-print
+    print-requires
     sub-turns
     loop-less
     loop-again

@@ -2,11 +2,9 @@
 -- turn finds.
 use Prim.Native.Nat.{ℕ, _≤_}
 use mathlib.Core.Path.{_≡_}
-use mathlib.Core.Bool.{true}
 use mathlib.Core.List.{List}
 use lib.ListN.{length}
 use Rattle.capture_lines.specs.Lines.{textMost}
-use Rattle.decode.specs.Turns.{stageIn, Reached}
 use Rattle.decode.specs.declared.run.Run.{Run}
 
 -- the bytes of the input's buffer, and so the most lines of a step
@@ -27,10 +25,8 @@ pub record Counted (most : ℕ) (run : Run) : Type 0 where
   pub lines : run .lines ≤ most
   pub refused : run .refused ≤ run .lines
 
--- what a turn finds: its buffers' sizes, and a run that the program came to and that asks for more
+-- what a turn finds: its buffers' sizes, and how far the run has come at most
 pub record Ready (run : Run) (buf out : List ℕ) : Type 0 where
   pub input : length buf ≡ inputRoom
   pub output : length out ≡ outputRoom
   pub counted : Counted linesMost run
-  pub reached : Reached (stageIn run buf)
-  pub more : run .more ≡ true

@@ -9,6 +9,12 @@ decode-end-requires c κs = search needs
 enum-known-answer : tie.Need-enum-known-answer
 enum-known-answer c = search needs
 
+stopped-requires : tie.Need-stopped-requires
+stopped-requires c κs = search needs
+
+silent-requires : tie.Need-silent-requires
+silent-requires c κs = search needs
+
 enum-known-answer-2 : tie.Need-enum-known-answer-2
 enum-known-answer-2 c = search needs
 
@@ -17,6 +23,9 @@ advanced-requires c κs = (search needs, (search end-laws depth 12 fits 4000, (s
 
 put-totals-of-requires : tie.Need-put-totals-of-requires
 put-totals-of-requires c κs = search needs
+
+ended-requires : tie.Need-ended-requires
+ended-requires c κs = search needs
 
 same-length : tie.Need-same-length
 same-length c = search needs
@@ -28,7 +37,7 @@ same-length-2 : tie.Need-same-length-2
 same-length-2 c = search needs
 
 returns-2 : tie.Need-returns-2
-returns-2 c = search end-laws depth 12 fits 4000
+returns-2 c = (search needs, search end-laws depth 12 fits 4000)
 
 pub lay-end-spec : {M : Type 1} → statement M
 lay-end-spec =
@@ -36,9 +45,12 @@ lay-end-spec =
     (tie.spec
     decode-end-requires
     enum-known-answer
+    stopped-requires
+    silent-requires
     enum-known-answer-2
     advanced-requires
     put-totals-of-requires
+    ended-requires
     same-length
     returns
     same-length-2

@@ -21,6 +21,9 @@ enum-known-answer c = search needs
 stopped-requires : tie.Need-stopped-requires
 stopped-requires c κs = search needs
 
+silent-requires : tie.Need-silent-requires
+silent-requires c κs = search needs
+
 enum-known-answer-2 : tie.Need-enum-known-answer-2
 enum-known-answer-2 c = search needs
 
@@ -63,6 +66,7 @@ lay-step-spec =
     decode-block-requires
     enum-known-answer
     stopped-requires
+    silent-requires
     enum-known-answer-2
     move-to-front-requires
     sub-advanced

@@ -1,5 +1,5 @@
-use borrow.Author.Needs.{needs}
 use Rattle.decode.proofs.TurnLaws.{prints-end}
+use borrow.Author.Needs.{needs}
 use Rattle.decode.proofs.turn.finish.Statement.{statement}
 use Rattle.decode.proofs.turn.finish.Tie as tie
 
@@ -19,4 +19,5 @@ returns : tie.Need-returns
 returns c = search needs
 
 pub finish-spec : {M : Type 1} → statement M
-finish-spec = tie.close (tie.spec part-requires lay-end-requires print-requires same-length returns)
+finish-spec =
+    tie.close (tie.spec part-requires lay-end-requires print-requires same-length returns)
