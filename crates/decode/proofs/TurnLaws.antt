@@ -25,7 +25,7 @@ use Rattle.decode.specs.Turns.{countOf, blockIn, byRead, stageRead, text
 use Rattle.decode.specs.Turns.{reading, done, stopped, turn, end}
 use Rattle.decode.specs.Inner.Sizes.{inputRoom, Counted}
 use Rattle.decode.specs.declared.run.Run.{Run}
-use Rattle.decode.specs.declared.step.Laid.{Laid}
+use Rattle.decode.specs.declared.turn.Laid.{Laid}
 use Rattle.decode.proofs.StepLaws.{size-of, after-counted}
 
 -- ---- what read answered, by its sign

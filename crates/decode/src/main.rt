@@ -1,11 +1,10 @@
 // Decodes a capture: standard input to standard output.
 mod run;
-mod step;
 mod turn;
 
 use crate::run::first_run;
-use crate::step::lay_read;
 use crate::turn::finish;
+use crate::turn::lay_read;
 use crate::turn::print;
 use crate::turn::read_block;
 ghost use mathlib.Core.Path.{_≡_};

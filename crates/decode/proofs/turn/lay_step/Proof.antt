@@ -1,7 +1,7 @@
 use Rattle.decode.proofs.StepLaws.{step-laws}
 use borrow.Author.Needs.{needs}
-use Rattle.decode.proofs.step.lay_step.Statement.{statement}
-use Rattle.decode.proofs.step.lay_step.Tie as tie
+use Rattle.decode.proofs.turn.lay_step.Statement.{statement}
+use Rattle.decode.proofs.turn.lay_step.Tie as tie
 
 sub-decode-block : tie.Need-sub-decode-block
 sub-decode-block c = search needs

@@ -1,7 +1,7 @@
 use Rattle.decode.proofs.StepLaws.{end-laws}
 use borrow.Author.Needs.{needs}
-use Rattle.decode.proofs.step.lay_end.Statement.{statement}
-use Rattle.decode.proofs.step.lay_end.Tie as tie
+use Rattle.decode.proofs.turn.lay_end.Statement.{statement}
+use Rattle.decode.proofs.turn.lay_end.Tie as tie
 
 decode-end-requires : tie.Need-decode-end-requires
 decode-end-requires c κs = search needs

@@ -2,8 +2,8 @@ use native.Mathlib.Omega.{arith}
 use Rattle.decode.specs.Inner.Sizes.{linesMost}
 use Rattle.decode.proofs.TurnLaws.{read-laws, gave-laid}
 use borrow.Author.Needs.{needs}
-use Rattle.decode.proofs.step.lay_read.Statement.{statement}
-use Rattle.decode.proofs.step.lay_read.Tie as tie
+use Rattle.decode.proofs.turn.lay_read.Statement.{statement}
+use Rattle.decode.proofs.turn.lay_read.Tie as tie
 
 stopped-requires : tie.Need-stopped-requires
 stopped-requires c κs = search needs
