@@ -1,5 +1,5 @@
--- However read cuts the input into blocks, the texts joined are the decoding of the whole: the theorem PrintsDecoding, by
--- that of every cutting. After a failure nothing more is printed: StopsPrinting.
+-- However read cuts the input into blocks, the texts joined are the decoding of the whole: the theorem PrintsDecoding,
+-- by that of every cutting. After a failure nothing more is printed: StopsPrinting.
 use Prim.Native.Nat.{ℕ}
 use mathlib.Core.Path.{_≡_, refl, sym, ap, _∙_}
 use mathlib.Core.Bool.{true, false}

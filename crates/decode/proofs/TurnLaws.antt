@@ -1,5 +1,5 @@
 -- The stage after a turn and its text, return by return, and the stages that the program comes to.
-use Prim.Native.Nat.{ℕ, zero, suc, _+_, _-_, _≤_, min}
+use Prim.Native.Nat.{ℕ, zero, suc, _+_, _-_, _≤_, _<_, min}
 use mathlib.Core.Path.{_≡_, refl, sym, ap, subst, _∙_}
 use mathlib.Core.Bool.{Bool, true, false, false≢true}
 use mathlib.Core.Logic.{_⊎_, inl, inr}
@@ -217,3 +217,12 @@ module _ (run : Run) (buf buf1 buf2 : List ℕ) (z : ℤ) (after : Run) (reached
 pub turn-counted : (most : ℕ) (after r : Run) → Counted most after → (r ≡ after) ⊎ (r ≡ stoppedRun) → Counted most r
 turn-counted most after r g (inl e) = rw e g
 turn-counted most after r g (inr e) = stopped-counted most r e
+
+-- the turns that are left: fewer than before, and some only where more is asked for
+pub left-fewer : (more : Bool) (turns r : ℕ) → 0 < turns → r ≡ pick more (turns - 1) 0 → suc r ≤ turns
+left-fewer true turns r some e = omega (arith, some, e)
+left-fewer false turns r some e = omega (arith, some, e)
+
+pub left-asked : (more : Bool) (turns r : ℕ) → r ≡ pick more (turns - 1) 0 → 0 < r → more ≡ true
+left-asked true turns r e some = refl
+left-asked false turns r e some = absurd (omega (arith, e, some))

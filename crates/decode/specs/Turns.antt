@@ -148,8 +148,8 @@ pub data Reached (stage : Stage) : Type 0 where
   done : (blocks : List (List ℕ)) → stage ≡ endedStage (stageAfter firstStage blocks) → Reached stage
   stopped : stage ≡ stoppedStage → Reached stage
 
--- what it may print, with the run to go on with: a turn's text, at a stage that asks for more; or the end's, and then no
--- more is asked for
+-- what it may print, with the run to go on with: a turn's text, at a stage that asks for more; or the end's, and then
+-- no more is asked for
 pub data Prints (after : Run) (text : List ℕ) : Type 0 where
   turn : (stage : Stage) (block : List ℕ) (answered : ℤ) → Reached stage → stage .run .more ≡ true
       → after ≡ stageRead stage block answered .run → text ≡ textRead stage block answered → Prints after text

@@ -8,7 +8,9 @@ use crate::turn::lay_read;
 use crate::turn::print;
 use crate::turn::read_block;
 ghost use mathlib.Core.Path.{_≡_};
+ghost use Prim.Native.Nat.{_-_, _<_};
 ghost use lib.ListN.{length};
+ghost use Rattle.bits.specs.Choice.{pick};
 ghost use Rattle.decode.specs.Inner.Sizes.{outputRoom};
 
 // A proved loop has to end. 2 to the power 47 turns of at most 65,536 lines give at most 2 to the power 63, so that no
@@ -25,6 +27,17 @@ fn output_buffer() -> [u8; OUTPUT_ROOM]
     [0; OUTPUT_ROOM]
 }
 
+// After a turn: none where no more is asked for.
+fn turns_left(more: bool, turns: u64) -> u64
+    requires { ⌜ 0 < turns ⌝ }
+    ensures { λ r. ⌜ r ≡ pick more (turns - 1) 0 ⌝ }
+{
+    if more {
+        return turns - 1;
+    }
+    0
+}
+
 fn main() {
     let mut buf = io::large_buffer();
     let mut out = output_buffer();
@@ -34,11 +47,7 @@ fn main() {
         let answered = read_block(run.kept, &mut buf);
         let laid = lay_read(run, answered, &mut buf, &mut out);
         run = print(laid, &out);
-        if run.more {
-            turns -= 1;
-        } else {
-            turns = 0;
-        }
+        turns = turns_left(run.more, turns);
     }
     finish(run, &buf, &mut out);
 }

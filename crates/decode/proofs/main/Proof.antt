@@ -9,7 +9,7 @@ use borrow.Author.Needs.{needs}
 use Rattle.decode.specs.Turns.{firstRun, stageIn, Reached}
 use Rattle.decode.specs.Inner.Sizes.{inputRoom, outputRoom, linesMost, Counted}
 use Rattle.decode.specs.declared.run.Run.{Run}
-use Rattle.decode.proofs.TurnLaws.{none-counted, first-reached, kept-within, moved-held, prints-turn, turn-reached, turn-counted}
+use Rattle.decode.proofs.TurnLaws.{none-counted, first-reached, kept-within, moved-held, prints-turn, turn-reached, turn-counted, left-fewer, left-asked}
 use Rattle.decode.proofs.main.Statement.{statement}
 use Rattle.decode.proofs.main.Tie as tie
 
@@ -72,11 +72,11 @@ print-requires c κs =
     prints-turn (loop .run) (loop .buf) (read .last .1 .0) (lay .last .1 .1 .0) (toZ w64 (ofZ w64 (read .result))) (lay .result .run) (loop .inv .1 .1 .1 .1 .1) (loop .inv .1 .1 .1 .1 .0 (test .taken)) (read .ensures .1)
     (lay .ensures .0) _ (lay .ensures .1 .0)
 
-sub-turns : tie.Need-sub-turns Inv-loop μ-loop
-sub-turns c = search needs
+turns-left-requires : tie.Need-turns-left-requires Inv-loop μ-loop
+turns-left-requires c κs = search needs
 
 loop-less : tie.Need-loop-less Inv-loop μ-loop
-loop-less c = search needs
+loop-less c = let test = c .before .before .before .before .before .before .before .before .before .before .before .loop-test in left-fewer (c .before .print .result .more) _ (c .turns-left .result) (test .taken) (c .turns-left .ensures)
 
 loop-again : tie.Need-loop-again Inv-loop μ-loop
 loop-again c =
@@ -85,29 +85,14 @@ loop-again c =
     let read = c .before .before .before .before .before .before .before .before .before .read-block in
     let lay = c .before .before .before .before .before .lay-read in
     let print = c .before .print in
+    let left = c .turns-left in
+    let fewer = left-fewer (print .result .more) (loop .turns) (left .result) (test .taken) (left .ensures) in
     let within = turn-counted _ (lay .result .run) (print .result) (lay .ensures .1 .1) (print .ensures) in
     let counted : Counted linesMost (print .result) = record { kept = within .kept; lines = omega arith; refused = within .refused } in
     let reached =
     turn-reached (loop .run) (loop .buf) (read .last .1 .0) (lay .last .1 .1 .0) (toZ w64 (ofZ w64 (read .result))) (lay .result .run) (loop .inv .1 .1 .1 .1 .1) (loop .inv .1 .1 .1 .1 .0 (test .taken)) (read .ensures .1)
     (lay .ensures .0) (print .result) (print .ensures) in
-    (search needs, (search needs, (omega arith, (counted, (λ _. c .if1 .taken, reached)))))
-
-loop-less-2 : tie.Need-loop-less-2 Inv-loop μ-loop
-loop-less-2 c = search needs
-
-loop-again-2 : tie.Need-loop-again-2 Inv-loop μ-loop
-loop-again-2 c =
-    let loop = c .before .before .before .before .before .before .before .before .before .before .before .before .loop in
-    let test = c .before .before .before .before .before .before .before .before .before .before .before .loop-test in
-    let read = c .before .before .before .before .before .before .before .before .before .read-block in
-    let lay = c .before .before .before .before .before .lay-read in
-    let print = c .before .print in
-    let within = turn-counted _ (lay .result .run) (print .result) (lay .ensures .1 .1) (print .ensures) in
-    let counted : Counted linesMost (print .result) = record { kept = within .kept; lines = omega arith; refused = within .refused } in
-    let reached =
-    turn-reached (loop .run) (loop .buf) (read .last .1 .0) (lay .last .1 .1 .0) (toZ w64 (ofZ w64 (read .result))) (lay .result .run) (loop .inv .1 .1 .1 .1 .1) (loop .inv .1 .1 .1 .1 .0 (test .taken)) (read .ensures .1)
-    (lay .ensures .0) (print .result) (print .ensures) in
-    (search needs, (search needs, (omega arith, (counted, (λ (h : 0 < 0). absurd (omega (arith, h)), reached)))))
+    (search needs, (search needs, (omega arith, (counted, (left-asked (print .result .more) (loop .turns) (left .result) (left .ensures), reached)))))
 
 slice-aggregate-finish : tie.Need-slice-aggregate-finish Inv-loop μ-loop
 slice-aggregate-finish c = search needs
@@ -138,11 +123,9 @@ main-spec =
     lay-read-requires
     slice-aggregate-print
     print-requires
-    sub-turns
+    turns-left-requires
     loop-less
     loop-again
-    loop-less-2
-    loop-again-2
     slice-aggregate-finish
     slice-aggregate-finish-2
     finish-requires
