@@ -21,7 +21,7 @@ use Rattle.io.specs.Counts.{clamped}
 use Rattle.libc.specs.Io.{Moved}
 use Rattle.capture_blocks.specs.declared.Progress.{Progress}
 use Rattle.decode.specs.Turns.{firstRun, endedRun, stoppedRun, afterStep, keptBytes, stepText, endText, Stage, stageIn, firstStage, endedStage, stoppedStage, nextStage, nextText, stageAfter}
-use Rattle.decode.specs.Turns.{countOf, blockIn, byRead, stageRead, textRead, Reached, Prints}
+use Rattle.decode.specs.Turns.{countOf, blockIn, byRead, turnStage, turnText, Reached, Prints}
 use Rattle.decode.specs.Turns.{reading, done, stopped, turn, end}
 use Rattle.decode.specs.Inner.Sizes.{inputRoom, Counted}
 use Rattle.decode.specs.declared.run.Run.{Run}
@@ -57,17 +57,17 @@ sign z fit b e = rw (toZ-ofZ fit) at e
 
 module _ (z : ℤ) (fit : SFits w64 z) (run : Run) (buf block : List ℕ) (after : Run) (r : Laid) (silent : r ≡ record { run = after; written = 0 }) where
   module _ (n : ltZ (toZ w64 (ofZ w64 z)) (pos 0) ≡ true) where
-    pub failed-stage : after ≡ stoppedRun → stageIn (r .run) buf ≡ stageRead (stageIn run buf) block z
+    pub failed-stage : after ≡ stoppedRun → stageIn (r .run) buf ≡ turnStage (stageIn run buf) block z
     failed-stage e = rw (silent, e) (sym (by-failed stoppedStage (endedStage (stageIn run buf)) (nextStage (stageIn run buf) block) z (sign z fit true n)))
 
-    pub failed-text : (out : List ℕ) → part out 0 (r .written) ≡ textRead (stageIn run buf) block z
+    pub failed-text : (out : List ℕ) → part out 0 (r .written) ≡ turnText (stageIn run buf) block z
     failed-text out = rw silent (sym (by-failed [] [] (nextText (stageIn run buf) block) z (sign z fit true n)))
 
   module _ (n : ltZ (toZ w64 (ofZ w64 z)) (pos 0) ≡ false) (none : ofZ w64 z ≡ 0) where
-    pub ended-stage : after ≡ endedRun run → stageIn (r .run) buf ≡ stageRead (stageIn run buf) block z
+    pub ended-stage : after ≡ endedRun run → stageIn (r .run) buf ≡ turnStage (stageIn run buf) block z
     ended-stage e = rw (silent, e) (sym (by-ended stoppedStage (endedStage (stageIn run buf)) (nextStage (stageIn run buf) block) z (sign z fit false n) none))
 
-    pub ended-text : (out : List ℕ) → part out 0 (r .written) ≡ textRead (stageIn run buf) block z
+    pub ended-text : (out : List ℕ) → part out 0 (r .written) ≡ turnText (stageIn run buf) block z
     ended-text out = rw silent (sym (by-ended [] [] (nextText (stageIn run buf) block) z (sign z fit false n) none))
 
 -- ---- lay_read: the bytes that were read, behind those that are kept
@@ -90,12 +90,12 @@ module _ (z : ℤ) (fit : SFits w64 z) (run : Run) (buf : List ℕ) (moved : Mov
       rw (laid, sub-zero (run .kept + countOf z), sub-zero (run .kept), size) (take-add (run .kept) (countOf z) buf)
 
   gave-stage : (after : Run) → after ≡ afterStep run (part buf 0 (run .kept + got)) → (buf1 : List ℕ)
-      → part buf1 0 (after .kept) ≡ keptBytes (run .progress) (part buf 0 (run .kept + got)) → stageIn after buf1 ≡ stageRead stage block z
+      → part buf1 0 (after .kept) ≡ keptBytes (run .progress) (part buf 0 (run .kept + got)) → stageIn after buf1 ≡ turnStage stage block z
   gave-stage after e buf1 k =
       let next : stageIn after buf1 ≡ nextStage stage block = rw (k, e, behind) in
       next ∙ sym (by-gave stoppedStage (endedStage stage) (nextStage stage block) z (sign z fit false n) some)
 
-  gave-text : (text : List ℕ) → text ≡ stepText (run .progress) (part buf 0 (run .kept + got)) → text ≡ textRead stage block z
+  gave-text : (text : List ℕ) → text ≡ stepText (run .progress) (part buf 0 (run .kept + got)) → text ≡ turnText stage block z
   gave-text text e = e ∙ ap (stepText (run .progress)) behind ∙ sym (by-gave [] [] (nextText stage block) z (sign z fit false n) some)
 
   gave-counted : (most : ℕ) (after : Run) → Counted most run → run .kept ≤ length buf → length buf ≡ inputRoom → after ≡ afterStep run (part buf 0 (run .kept + got)) → Counted (run .lines + inputRoom) after
@@ -103,7 +103,7 @@ module _ (z : ℤ) (fit : SFits w64 z) (run : Run) (buf : List ℕ) (moved : Mov
 
   pub gave-laid : (most : ℕ) (after : Run) (buf1 text : List ℕ) → Counted most run → run .kept ≤ length buf → length buf ≡ inputRoom → after ≡ afterStep run (part buf 0 (run .kept + got))
       → part buf1 0 (after .kept) ≡ keptBytes (run .progress) (part buf 0 (run .kept + got)) → text ≡ stepText (run .progress) (part buf 0 (run .kept + got))
-      → (stageIn after buf1 ≡ stageRead stage block z) × ((text ≡ textRead stage block z) × Counted (run .lines + inputRoom) after)
+      → (stageIn after buf1 ≡ turnStage stage block z) × ((text ≡ turnText stage block z) × Counted (run .lines + inputRoom) after)
   gave-laid most after buf1 text counted h room e k t = (gave-stage after e buf1 k, (gave-text text t, gave-counted most after counted h room e))
 
 -- ---- how large the numbers get
@@ -187,13 +187,13 @@ module _ (block : List ℕ) where
   after-one-more [] stage m = stage-goes-on stage block [] m
   after-one-more (first ∷ blocks) stage m = one-more-by first blocks stage (stage .run .more) refl (after-one-more blocks (nextStage stage first)) m
 
-  read-by : (blocks : List (List ℕ)) (stage : Stage) (z : ℤ) → stage ≡ stageAfter firstStage blocks → stage .run .more ≡ true → Reached (stageRead stage block z)
+  read-by : (blocks : List (List ℕ)) (stage : Stage) (z : ℤ) → stage ≡ stageAfter firstStage blocks → stage .run .more ≡ true → Reached (turnStage stage block z)
   read-by blocks stage (negsuc n) e m = stopped refl
   read-by blocks stage (pos zero) e m = done blocks (ap endedStage e)
   read-by blocks stage (pos (suc n)) e m =
       reading (blocks ++ (block ∷ [])) (ap (λ (x : Stage). nextStage x block) e ∙ sym (after-one-more blocks firstStage (sym (ap (λ (x : Stage). x .run .more) e) ∙ m)))
 
-  read-reached : (stage : Stage) (z : ℤ) → Reached stage → stage .run .more ≡ true → Reached (stageRead stage block z)
+  read-reached : (stage : Stage) (z : ℤ) → Reached stage → stage .run .more ≡ true → Reached (turnStage stage block z)
   read-reached stage z (reading blocks e) m = read-by blocks stage z e m
   read-reached stage z (done blocks e) m = absurd (false≢true (sym (ap (λ (x : Stage). x .run .more) e) ∙ m))
   read-reached stage z (stopped e) m = absurd (false≢true (sym (ap (λ (x : Stage). x .run .more) e) ∙ m))
@@ -203,11 +203,11 @@ kept-within most run buf g room = omega (arith, room, g .kept)
 
 -- a turn: the buffer before it, after read_block and after lay_read
 module _ (run : Run) (buf buf1 buf2 : List ℕ) (z : ℤ) (after : Run) (reached : Reached (stageIn run buf)) (more : run .more ≡ true)
-    (front : part buf1 0 (run .kept) ≡ part buf 0 (run .kept)) (stage : stageIn after buf2 ≡ stageRead (stageIn run buf1) (blockIn run buf1 z) z) where
+    (front : part buf1 0 (run .kept) ≡ part buf 0 (run .kept)) (stage : stageIn after buf2 ≡ turnStage (stageIn run buf1) (blockIn run buf1 z) z) where
   still : Reached (stageIn run buf1)
   still = rw front reached
 
-  pub prints-turn : (text : List ℕ) → text ≡ textRead (stageIn run buf1) (blockIn run buf1 z) z → Prints after text
+  pub prints-turn : (text : List ℕ) → text ≡ turnText (stageIn run buf1) (blockIn run buf1 z) z → Prints after text
   prints-turn text e = turn (stageIn run buf1) (blockIn run buf1 z) z still more (ap (λ (x : Stage). x .run) stage) e
 
   pub turn-reached : (r : Run) → (r ≡ after) ⊎ (r ≡ stoppedRun) → Reached (stageIn r buf2)

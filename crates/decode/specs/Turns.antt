@@ -135,12 +135,12 @@ byRead failed ended gave (pos zero) = ended
 byRead failed ended gave (pos (suc n)) = gave
 
 -- the stage after a turn
-abbrev pub stageRead : Stage → List ℕ → ℤ → Stage
-stageRead stage block answered = byRead stoppedStage (endedStage stage) (nextStage stage block) answered
+abbrev pub turnStage : Stage → List ℕ → ℤ → Stage
+turnStage stage block answered = byRead stoppedStage (endedStage stage) (nextStage stage block) answered
 
 -- and what is printed in it
-abbrev pub textRead : Stage → List ℕ → ℤ → List ℕ
-textRead stage block answered = byRead [] [] (nextText stage block) answered
+abbrev pub turnText : Stage → List ℕ → ℤ → List ℕ
+turnText stage block answered = byRead [] [] (nextText stage block) answered
 
 -- where the program can stand: it read some blocks, and perhaps came to the end of the input; or a call failed
 pub data Reached (stage : Stage) : Type 0 where
@@ -152,6 +152,6 @@ pub data Reached (stage : Stage) : Type 0 where
 -- no more is asked for
 pub data Prints (after : Run) (text : List ℕ) : Type 0 where
   turn : (stage : Stage) (block : List ℕ) (answered : ℤ) → Reached stage → stage .run .more ≡ true
-      → after ≡ stageRead stage block answered .run → text ≡ textRead stage block answered → Prints after text
+      → after ≡ turnStage stage block answered .run → text ≡ turnText stage block answered → Prints after text
   end : (stage : Stage) → Reached stage → after ≡ endedRun (stage .run) → text ≡ endText (stage .run) (stage .kept)
       → Prints after text

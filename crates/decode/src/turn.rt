@@ -20,7 +20,7 @@ ghost use lib.ListN.{length};
 ghost use Rattle.text.specs.Words.{part};
 ghost use Rattle.libc.specs.Io.{Moved};
 ghost use Rattle.decode.specs.Turns.{endedRun, stoppedRun, afterStep, keptBytes, stepText, endText};
-ghost use Rattle.decode.specs.Turns.{stageIn, blockIn, stageRead, textRead, Reached, Prints};
+ghost use Rattle.decode.specs.Turns.{stageIn, blockIn, turnStage, turnText, Reached, Prints};
 ghost use Rattle.decode.specs.Inner.Sizes.{inputRoom, outputRoom, linesMost, Counted, Ready};
 
 // Reads once, behind the kept bytes, and says so where that fails.
@@ -88,10 +88,10 @@ pub(crate) fn lay_read(run: Run, answered: isize, buf: &mut [u8], out: &mut [u8]
     requires { ⌜ Moved (length (now buf) - run .kept) answered ⌝ }
     ensures stage { λ r.
         ⌜ stageIn (r .run) (now (buf .exit))
-        ≡ stageRead (stageIn run (now (buf .entry))) (blockIn run (now (buf .entry)) answered) answered ⌝ }
+        ≡ turnStage (stageIn run (now (buf .entry))) (blockIn run (now (buf .entry)) answered) answered ⌝ }
     ensures text { λ r.
         ⌜ part (now (out .exit)) 0 (r .written)
-        ≡ textRead (stageIn run (now (buf .entry))) (blockIn run (now (buf .entry)) answered) answered ⌝ }
+        ≡ turnText (stageIn run (now (buf .entry))) (blockIn run (now (buf .entry)) answered) answered ⌝ }
     ensures counted { λ r. ⌜ Counted (run .lines + inputRoom) (r .run) ⌝ }
 {
     if answered < 0 {
