@@ -14,7 +14,7 @@ use mir.Syntax.{w64}
 use mir.Val.{SFits, ofZ, toZ}
 use mir.Facts.{toZ-ofZ}
 use borrow.Author.Tests.{ltb-true}
-use borrow.Rule.Slice.PartMut.{postOf, putMid, same-len-mid}
+use borrow.Rule.Slice.PartMut.{postOf, putMid}
 use Rattle.bits.specs.Choice.{pick}
 use Rattle.text.specs.Words.{part}
 use Rattle.io.specs.Counts.{clamped}
@@ -128,9 +128,6 @@ pub ruleset read-laws = (failed-stage, failed-text, ended-stage, ended-text, sto
 module _ (buf last : List ℕ) (kept : ℕ) (h : kept ≤ length buf) (l : length last ≡ length (take (length buf - kept) (drop kept buf))) where
   abbrev filled : List ℕ
   filled = putMid kept (length buf - kept) buf last
-
-  filled-length : length filled ≡ length buf
-  filled-length = same-len-mid kept (length buf - kept) buf last l
 
   -- the kept bytes are as they were
   pub filled-front : part filled 0 kept ≡ part buf 0 kept

@@ -1,7 +1,7 @@
 -- Delivery, worked twice, so that its premises are seen to hold together: P2's read taken in 96+128+32 bytes, and a
 -- read with disabled bytes at both ends, taken in 8+64+8 bytes while a read of another tag is opened and taken. The
 -- theorem is a `WorkedHold`, proved in proofs/Instance; no promise cites this file.
-use Prim.Native.Nat.{ℕ, _*_}
+use Prim.Native.Nat.{ℕ, _*_, _/_, _%_}
 use mathlib.Core.Path.{_≡_}
 use mathlib.Core.Bool.{true}
 use mathlib.Core.List.{List, [], _∷_, _++_}
@@ -75,6 +75,14 @@ storeOf v rest = replicate 4 v ++ rest
 abbrev pub out : List ℕ
 out = replicate 12 0
 
+-- a CplD as it arrives, from 0200 to 0100: its tag, length in doublewords below 256, Byte Count, Lower Address and data
+abbrev pub completion : ℕ → ℕ → ℕ → ℕ → List ℕ → List ℕ
+completion tag n count lower payload =
+    0x4A ∷ 0x00 ∷ 0x00 ∷ n
+    ∷ 0x02 ∷ 0x00 ∷ (count / 256) ∷ (count % 256)
+    ∷ 0x01 ∷ 0x00 ∷ tag ∷ lower
+    ∷ payload
+
 -- ---- P2's read, with other calls before, between and afterwards
 
 abbrev pub wholeRead : ReadRequest
@@ -84,15 +92,15 @@ wholeRead = record { access = longRead; «traffic_class» = 0; attributes = 0; s
 abbrev pub shortRead : ReadRequest
 shortRead = record { access = reading 0x20000 1 0b1111 0b0000; «traffic_class» = 0; attributes = 0; start = 260 }
 
--- the pieces as they arrive: CplD, from 0200 to 0100, tag 5; 24, 32 and 8 doublewords
+-- the pieces of tag 5: 24, 32 and 8 doublewords
 abbrev pub piece₁ : List ℕ
-piece₁ = 0x4A ∷ 0x00 ∷ 0x00 ∷ 0x18 ∷ 0x02 ∷ 0x00 ∷ 0x01 ∷ 0x00 ∷ 0x01 ∷ 0x00 ∷ 0x05 ∷ 0x20 ∷ replicate 96 1
+piece₁ = completion 5 24 256 32 (replicate 96 1)
 
 abbrev pub piece₂ : List ℕ
-piece₂ = 0x4A ∷ 0x00 ∷ 0x00 ∷ 0x20 ∷ 0x02 ∷ 0x00 ∷ 0x00 ∷ 0xA0 ∷ 0x01 ∷ 0x00 ∷ 0x05 ∷ 0x00 ∷ replicate 128 2
+piece₂ = completion 5 32 160 0 (replicate 128 2)
 
 abbrev pub piece₃ : List ℕ
-piece₃ = 0x4A ∷ 0x00 ∷ 0x00 ∷ 0x08 ∷ 0x02 ∷ 0x00 ∷ 0x00 ∷ 0x20 ∷ 0x01 ∷ 0x00 ∷ 0x05 ∷ 0x00 ∷ replicate 32 3
+piece₃ = completion 5 8 32 0 (replicate 32 3)
 
 -- of a store of 264 bytes the rest: at opening, with one piece and with two
 abbrev pub rest₀ : List ℕ
@@ -145,22 +153,22 @@ trimmedRead = record { access = reading 0x10038 20 0b1100 0b0011; «traffic_clas
 abbrev pub splitRead : ReadRequest
 splitRead = record { access = reading 0x2003C 2 0b1111 0b1111; «traffic_class» = 0; attributes = 0; start = 84 }
 
--- of tag 5: 2, 16 and 2 doublewords; Byte Count 76, 70 and 6, Lower Address 58, 64 and 0
+-- the pieces of tag 5: 2, 16 and 2 doublewords
 abbrev pub trimmed₁ : List ℕ
-trimmed₁ = 0x4A ∷ 0x00 ∷ 0x00 ∷ 0x02 ∷ 0x02 ∷ 0x00 ∷ 0x00 ∷ 0x4C ∷ 0x01 ∷ 0x00 ∷ 0x05 ∷ 0x3A ∷ replicate 8 1
+trimmed₁ = completion 5 2 76 58 (replicate 8 1)
 
 abbrev pub trimmed₂ : List ℕ
-trimmed₂ = 0x4A ∷ 0x00 ∷ 0x00 ∷ 0x10 ∷ 0x02 ∷ 0x00 ∷ 0x00 ∷ 0x46 ∷ 0x01 ∷ 0x00 ∷ 0x05 ∷ 0x40 ∷ replicate 64 2
+trimmed₂ = completion 5 16 70 64 (replicate 64 2)
 
 abbrev pub trimmed₃ : List ℕ
-trimmed₃ = 0x4A ∷ 0x00 ∷ 0x00 ∷ 0x02 ∷ 0x02 ∷ 0x00 ∷ 0x00 ∷ 0x06 ∷ 0x01 ∷ 0x00 ∷ 0x05 ∷ 0x00 ∷ replicate 8 3
+trimmed₃ = completion 5 2 6 0 (replicate 8 3)
 
--- of tag 6: one doubleword each; Byte Count 8 and 4, Lower Address 60 and 64
+-- of tag 6: one doubleword each
 abbrev pub split₁ : List ℕ
-split₁ = 0x4A ∷ 0x00 ∷ 0x00 ∷ 0x01 ∷ 0x02 ∷ 0x00 ∷ 0x00 ∷ 0x08 ∷ 0x01 ∷ 0x00 ∷ 0x06 ∷ 0x3C ∷ replicate 4 4
+split₁ = completion 6 1 8 60 (replicate 4 4)
 
 abbrev pub split₂ : List ℕ
-split₂ = 0x4A ∷ 0x00 ∷ 0x00 ∷ 0x01 ∷ 0x02 ∷ 0x00 ∷ 0x00 ∷ 0x04 ∷ 0x01 ∷ 0x00 ∷ 0x06 ∷ 0x40 ∷ replicate 4 5
+split₂ = completion 6 1 4 64 (replicate 4 5)
 
 -- of a store of 96 bytes the rest, with so many pieces of tag 5 and of tag 6
 abbrev pub rest₀₀ : List ℕ

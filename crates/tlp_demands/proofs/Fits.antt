@@ -1,7 +1,7 @@
 -- What the writer's tests say of a packet's numbers: each fits its field.
 use Prim.Native.Nat.{ℕ, _^_, _<_, _≤_}
-use mathlib.Core.Path.{_≡_, refl}
-use mathlib.Core.Bool.{Bool, true, false, _||_, _&&_, not, and-eq-true-iff, true≢false}
+use mathlib.Core.Path.{_≡_}
+use mathlib.Core.Bool.{Bool, true, false, _&&_, not, and-eq-true-iff, true≢false}
 use lib.Dec.{leb, eqb}
 use borrow.Author.Tests.{leb-false, leb-true, not-false, eqb-true}
 use Rattle.tlp.specs.declared.packet.Request.{Request}

@@ -55,7 +55,8 @@ pub record ExportedWriteExactly (settings : Settings) (fields payload out : List
   -- the bytes of the packet that the record describes, over the front of the output, and their size
   pub written : writeNumber settings fields (length payload) (length out) ≡ 0
       → (recordOut settings fields payload out ≡ overFront (bytesOf (recordPacket fields) payload) out)
-      × (writtenSize settings fields (length payload) (length out) size ≡ length (bytesOf (recordPacket fields) payload))
+      × (writtenSize settings fields (length payload) (length out) size
+      ≡ length (bytesOf (recordPacket fields) payload))
 
 pub record ExportedDemand1 : Type 0 where
   pub reads : (settings : Settings) (packet lent : List ℕ) → ExportedReadExactly settings packet lent

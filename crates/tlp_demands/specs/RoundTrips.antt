@@ -23,9 +23,9 @@ WriteThenRead =
     → (readPacket settings (take size (writeOut settings p payload out)) ≡ Accepted p)
     × (payloadOf p (take size (writeOut settings p payload out)) ≡ payload)
 
--- "reading then writing gives the same bytes with reserved bits cleared": where bytes are read, writing that packet with
--- the payload in them into any output with room, with the same settings, is accepted. The output is then the bytes with
--- reserved bits cleared, and the rest of it as it was.
+-- "reading then writing gives the same bytes with reserved bits cleared": where bytes are read, writing that packet
+-- with the payload in them into any output with room, with the same settings, is accepted. The output is then the bytes
+-- with reserved bits cleared, and the rest of it as it was.
 abbrev pub ReadThenWrite : Type 0
 ReadThenWrite =
     (settings : Settings) (packet : List ℕ) (p : Packet) (out : List ℕ)
