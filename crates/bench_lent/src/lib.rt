@@ -1,6 +1,8 @@
 // The cores of the table's calls for C, to be timed beside a plain C table. All is the caller's memory: what the
 // table is made from (MPS, MRRS, RCB, requester ID), its set and its words, and a request in the form of a tag's
 // words.
+#![tactic(auto)]
+
 ghost use Rattle.std.specs.Prelude.{◌≡◌, length};
 ghost use Rattle.reads.specs.Answers.{open_number, withdraw_number};
 ghost use Rattle.reads.specs.OpenCall.{open_call, open_out};

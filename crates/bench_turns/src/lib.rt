@@ -2,6 +2,8 @@
 // standard input says which and how many, each line of standard output what came of them. A program that turns one
 // way alone has one caller of each of the table's cores, as a host has. In one that turns every way a core has two,
 // the method and the lent turns; those of open and take stand apart there.
+#![tactic(auto)]
+
 mod by_value;
 mod code;
 mod in_place;
@@ -18,6 +20,7 @@ use crate::work::{Work, way_in, work_in};
 use reads::table::Table;
 use reads_rules::window::STORE_LIMIT;
 use text::fields::{Field, line_start};
+use text::lines::line_end;
 use text::words::part;
 
 // The longest store.
@@ -113,7 +116,7 @@ fn run_lines(named: bool, place: bool) {
     let n = io::read_full(0, &mut input);
     let mut at: usize = 0;
     while at < n {
-        let end = bytes::scan::find(&input, at, n, b'\n');
+        let end = line_end(&input[..n], at);
         run_line(named, place, &input[at..end]);
         at = end + 1;
     }

@@ -7,7 +7,7 @@ use text::number::MOST_32;
 
 // What is to be done: whether a turn takes its read or withdraws it, how many other reads are open, the read's size
 // in bytes, its tag, and how many turns.
-#[derive(Drop)]
+#[derive(Clone, Copy)]
 pub(crate) struct Work {
     pub good: bool,
     pub takes: bool,
@@ -25,7 +25,7 @@ fn decimal_up_to(line: &[u8], before: Field, key: &[u8], most: u64) -> Field
 }
 
 // The field after one of two words, and whether it was the first.
-#[derive(Drop)]
+#[derive(Clone, Copy)]
 pub(crate) struct Choice {
     pub first: bool,
     pub field: Field,
@@ -47,7 +47,7 @@ fn one_of_two(line: &[u8], before: Field, one: &[u8], two: &[u8]) -> Choice {
 }
 
 // The way that a line names, and the field after its word.
-#[derive(Drop)]
+#[derive(Clone, Copy)]
 pub(crate) struct Way {
     pub lent: bool,
     pub place: bool,

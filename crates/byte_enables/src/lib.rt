@@ -1,11 +1,13 @@
 // Byte enables of a request.
+#![tactic(auto)]
+
 ghost use Rattle.std.specs.Prelude.{◌≡◌, ℕ, ◌+◌, ◌-◌, ◌*◌, ◌/◌, ◌%◌, List, [], ◌∷◌};
 ghost use Rattle.bits.specs.Choice.{one_of};
 ghost use Rattle.byte_enables.specs.Enables.{first_kinds, last_kinds, enables_allowed, off, ending, trail, enables_at, enabled, enabled_bytes};
 
 // What the rules for enables look at: one request's address, its length in doublewords, and the enables of its first
 // and last doubleword.
-#[derive(Drop)]
+#[derive(Clone, Copy)]
 pub struct Access {
     pub address: u64,
     pub length: u32,

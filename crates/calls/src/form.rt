@@ -6,7 +6,7 @@ use text::fields::{Field, line_start, plain_hex_after};
 use text::number::{MOST_8, MOST_32};
 use tlp::settings::Settings;
 
-#[derive(Drop)]
+#[derive(Clone, Copy)]
 pub(crate) struct SettingsPart {
     pub settings: Settings,
     pub end: Field,
@@ -27,7 +27,7 @@ pub(crate) fn settings_part(line: &[u8], key: &[u8]) -> SettingsPart {
     }
 }
 
-#[derive(Drop)]
+#[derive(Clone, Copy)]
 struct AccessPart {
     access: Access,
     end: Field,
@@ -51,7 +51,7 @@ fn access_part(line: &[u8], before: Field, key: &[u8]) -> AccessPart {
 }
 
 // A read but for its start, which open and force have at other places: it is 0 here.
-#[derive(Drop)]
+#[derive(Clone, Copy)]
 pub(crate) struct ReadPart {
     pub request: ReadRequest,
     pub end: Field,

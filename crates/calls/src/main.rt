@@ -1,4 +1,6 @@
 // A console for the table of open reads: a script of calls on standard input, a line of output for each of its lines.
+#![tactic(auto)]
+
 mod console;
 mod field;
 mod form;
@@ -16,15 +18,15 @@ use crate::script::{answer_lines, lines_end};
 use bits::choice::lesser;
 use calls_printed::LINE_MOST;
 use calls_printed::print::print_bad;
+use std::io::Read;
 use text::buffer::move_to_front;
 
 // Reads once, behind the bytes that are kept, and answers how many bytes came.
-fn read_behind(buf: &mut [u8], kept: usize) -> usize
+fn read_behind(input: &mut impl Read, buf: &mut [u8], kept: usize) -> usize
     requires { kept ≤ length buf.old }
     ensures { kept + result ≤ length buf.old }
 {
-    let answered = libc::read(0, &mut buf[kept..]);
-    lesser(io::count(answered, buf), buf.len() - kept)
+    input.read(&mut buf[kept..]).unwrap_or(0)
 }
 
 // Keeps what has no end yet, from index used up to index n, and answers how many bytes that are.
@@ -49,7 +51,8 @@ fn turns_left(turns: u64, got: usize) -> u64
     turns - 1
 }
 
-fn main() {
+fn main(rt: HostRuntime) {
+    let mut input = rt.stdin();
     let mut buf = io::large_buffer();
     let mut store = [0u8; STORE_MOST];
     let mut lent = STORE_FIRST;
@@ -58,7 +61,7 @@ fn main() {
     let mut kept: usize = 0;
     let mut turns: u64 = 18446744073709551615;
     while 0 < turns {
-        let got = read_behind(&mut buf, kept);
+        let got = read_behind(&mut input, &mut buf, kept);
         let n = kept + got;
         let used = lines_end(&buf[0..n]);
         t = answer_lines(&buf[0..used], t, &mut lent, &mut store);

@@ -6,6 +6,7 @@ use crate::run::run;
 use calls_printed::LINE_MOST;
 use calls_printed::print::print_bad;
 use reads::table::Table;
+use text::lines::line_end;
 
 // The index after the last newline: what follows it has no end yet.
 pub(crate) fn lines_end(text: &[u8]) -> usize
@@ -42,7 +43,7 @@ pub(crate) fn answer_lines(
     let mut t = first;
     let mut at: usize = 0;
     while at < text.len() {
-        let end = bytes::scan::find(text, at, text.len(), b'\n');
+        let end = line_end(text, at);
         t = answer_line(&text[at..end], t, lent, store);
         at = end + 1;
     }

@@ -1,5 +1,7 @@
 // The calls of a table and what is printed of them, for the console.
 // A function that prints states all but what it prints: no contract can say that.
+#![tactic(auto)]
+
 pub mod checksum;
 pub mod print;
 pub mod store;

@@ -8,20 +8,20 @@ use text::fields::{Field, decimal_after, hex_after, line_start};
 use tlp::settings::{Settings, settings_listed};
 
 // The settings, and the requester ID of the box.
-#[derive(Drop)]
+#[derive(Clone, Copy)]
 pub struct Header {
     pub settings: Settings,
     pub requester: u16,
 }
 
-#[derive(Drop)]
+#[derive(Clone, Copy)]
 pub enum HeaderLine {
     Good(Header),
     Bad,
 }
 
 // What a line's four fields spell, whether they are good, and the index after them.
-#[derive(Drop)]
+#[derive(Clone, Copy)]
 struct HeaderFields {
     good: bool,
     settings: Settings,

@@ -10,21 +10,21 @@ use text::fields::{Field, decimal_after, key_after, line_start};
 use text::hex::{Spelled, hex_front, hex_only};
 use text::words::part;
 
-#[derive(Drop)]
+#[derive(Clone, Copy)]
 pub enum Direction {
     Rx,
     Tx,
 }
 
 // A packet line: its time, its direction, and how many bytes its packet has.
-#[derive(Drop)]
+#[derive(Clone, Copy)]
 pub struct Entry {
     pub at: u32,
     pub direction: Direction,
     pub size: usize,
 }
 
-#[derive(Drop)]
+#[derive(Clone, Copy)]
 pub enum PacketLine {
     Packet(Entry),
     // The line is bad.
@@ -34,7 +34,7 @@ pub enum PacketLine {
 }
 
 // What stands before the packet's digits, the first of which is at index digits.
-#[derive(Drop)]
+#[derive(Clone, Copy)]
 struct Front {
     good: bool,
     at: u32,
@@ -44,7 +44,7 @@ struct Front {
 }
 
 // The direction, and the field of its key.
-#[derive(Drop)]
+#[derive(Clone, Copy)]
 struct DirectionField {
     field: Field,
     direction: Direction,

@@ -1,4 +1,6 @@
 // The decoding of a capture that comes block by block.
+#![tactic(auto)]
+
 mod lines;
 
 ghost use Rattle.std.specs.Prelude.{◌≡◌, ◌-◌, ◌*◌, ◌≤◌, length};
@@ -21,7 +23,7 @@ use text::words::part;
 use tlp::settings::Settings;
 
 // How far a capture has been decoded.
-#[derive(Drop)]
+#[derive(Clone, Copy)]
 pub enum Progress {
     // Line one has not come.
     First,
@@ -35,7 +37,7 @@ pub enum Progress {
 
 // What a step came to: how many of its bytes are done with, how many were printed, and how many lines there are and are
 // refused.
-#[derive(Drop)]
+#[derive(Clone, Copy)]
 pub struct Step {
     pub progress: Progress,
     pub used: usize,
@@ -44,7 +46,7 @@ pub struct Step {
     pub refused: usize,
 }
 
-#[derive(Drop)]
+#[derive(Clone, Copy)]
 pub enum BlockAnswer {
     Stepped(Step),
     // 12: there might not be room for what is printed.

@@ -37,7 +37,7 @@ fn refused_count(answer: LineAnswer) -> usize
 
 // A line: whether it is complete, the index of the next line, the end of what was printed for it, and 1 where it is
 // refused.
-#[derive(Drop)]
+#[derive(Clone, Copy)]
 pub(crate) struct LineDone {
     pub complete: bool,
     pub end: usize,
@@ -99,7 +99,7 @@ fn line_at(
 }
 
 // What complete lines come to: the end of them and of what was printed, and how many lines there are and are refused.
-#[derive(Drop)]
+#[derive(Clone, Copy)]
 pub(crate) struct Tally {
     pub used: usize,
     pub written: usize,

@@ -1,4 +1,6 @@
 // What the lines of a capture give: the decoding as a definition, and the reading of a packet line.
+#![tactic(auto)]
+
 ghost use Rattle.std.specs.Prelude.{◌≡◌};
 ghost use Rattle.capture.specs.PacketLines.{packet_line, packet_over};
 ghost use Rattle.capture_decode.specs.PacketReads.{packet_read};

@@ -1,4 +1,6 @@
 // The lines of a capture.
+#![tactic(auto)]
+
 ghost use Rattle.std.specs.Prelude.{◌≡◌, ◌≤◌, ltb, length};
 ghost use Rattle.capture_lines.specs.Lines.{line_length, next_line};
 ghost use Rattle.capture_lines.specs.Inner.Newlines.{newline_from};
@@ -9,7 +11,7 @@ use bits::choice::lesser;
 pub const TEXT_MOST: usize = 8266;
 
 // A line: end is the index of the next line, or the end of the bytes.
-#[derive(Drop)]
+#[derive(Clone, Copy)]
 pub enum NextLine {
     Ended { end: usize },
     // It has more than TEXT_MOST bytes.

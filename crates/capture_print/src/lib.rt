@@ -1,4 +1,6 @@
 // What is printed for lines, and the totals.
+#![tactic(auto)]
+
 ghost use Rattle.std.specs.Prelude.{◌≡◌, length};
 ghost use Rattle.text.specs.Laid.{laid, after};
 ghost use Rattle.text.specs.Decimal.{decimal_text};
@@ -14,7 +16,7 @@ use tlp::packet_type::PacketType;
 use tlp_read::ReadAnswer;
 
 // What a line after the first gives.
-#[derive(Drop)]
+#[derive(Clone, Copy)]
 pub enum LineAnswer {
     // What the reader answers for its packet.
     Read(ReadAnswer),

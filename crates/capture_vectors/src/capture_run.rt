@@ -4,11 +4,10 @@ ghost use Rattle.capture_vectors.specs.Inner.Sizes.{input_room};
 
 use bits::choice::lesser;
 use capture_blocks::{BlockAnswer, Progress, Step, decode_block, decode_end, put_totals_of};
-use libc::STDOUT_FILENO;
 use text::words::part;
 
 // How far the capture is decoded: the bytes that the steps have used, and the lines in them.
-#[derive(Drop)]
+#[derive(Clone, Copy)]
 struct Run {
     progress: Progress,
     used: usize,
@@ -29,7 +28,7 @@ fn first_run() -> Run
 
 // Writes the first n bytes of out.
 fn print(out: &[u8], n: usize) {
-    io::write_all(STDOUT_FILENO, part(out, 0, n));
+    io::write_all(1, part(out, 0, n));
 }
 
 fn advanced(run: Run, step: Step) -> Run

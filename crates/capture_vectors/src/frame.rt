@@ -3,15 +3,15 @@ ghost use Rattle.std.specs.Prelude.{◌≤◌, length};
 ghost use Rattle.capture_vectors.specs.Inner.Sizes.{input_room};
 
 use crate::capture_run::run_capture;
-use libc::STDOUT_FILENO;
 use text::fields::{decimal_after, line_start};
+use text::lines::line_end;
 use text::words::part;
 
 // The first line has at most 30 bytes and the capture at most 60,000.
 pub(crate) const FRAME_MOST: usize = 60030;
 
 // Where the capture stands, and the size of its blocks: 0 for a frame of another form.
-#[derive(Drop)]
+#[derive(Clone, Copy)]
 struct Frame {
     from: usize,
     to: usize,
@@ -31,7 +31,7 @@ fn bad_frame() -> Frame
 fn frame_at(input: &[u8]) -> Frame
     ensures { result.to ≤ length input.now }
 {
-    let end = bytes::scan::find(input, 0, input.len(), b'\n');
+    let end = line_end(input, 0);
     if end == input.len() {
         return bad_frame();
     }
@@ -63,10 +63,10 @@ pub(crate) fn run_frame(input: &[u8], out: &mut [u8]) -> usize
     }
     let f = frame_at(input);
     if f.block == 0 {
-        io::write_all(STDOUT_FILENO, b"bad frame\n");
+        io::write_all(1, b"bad frame\n");
         return 0;
     }
     run_capture(part(input, f.from, f.to), f.block, out);
-    io::write_all(STDOUT_FILENO, b"--\n");
+    io::write_all(1, b"--\n");
     f.to
 }

@@ -1,5 +1,7 @@
 // Decodes stored captures, each in blocks of the size that its frame names. A frame is the line `size=N block=B` and
 // then N bytes, a capture; what a capture gives is followed by the line `--`.
+#![tactic(auto)]
+
 mod capture_run;
 mod frame;
 mod window;

@@ -3,11 +3,10 @@ ghost use Rattle.std.specs.Prelude.{◌≡◌, ◌-◌, ◌≤◌, length};
 ghost use Rattle.capture_vectors.specs.Inner.Sizes.{input_room};
 
 use crate::frame::{FRAME_MOST, run_frame};
-use libc::STDIN_FILENO;
 use text::buffer::move_to_front;
 
 // What is still to run stands from index at up to index end.
-#[derive(Drop)]
+#[derive(Clone, Copy)]
 pub(crate) struct Window {
     pub at: usize,
     pub end: usize,
@@ -34,7 +33,7 @@ fn refill(w: Window, buf: &mut [u8]) -> Window
         return w;
     }
     move_to_front(buf, w.at, w.end);
-    let got = io::read_full(STDIN_FILENO, &mut buf[kept..]);
+    let got = io::read_full(0, &mut buf[kept..]);
     Window {
         at: 0,
         end: kept + got,

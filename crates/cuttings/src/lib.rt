@@ -1,1 +1,2 @@
 // Lawful cuttings of a read: definitions and theorems, and no code.
+#![tactic(auto)]

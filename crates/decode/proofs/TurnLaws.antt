@@ -18,7 +18,7 @@ use borrow.Rule.Slice.PartMut.{post_of, put_mid}
 use Rattle.bits.specs.Choice.{pick}
 use Rattle.text.specs.Words.{part}
 use Rattle.io.specs.Counts.{clamp_len}
-use Rattle.libc.specs.Io.{Moved}
+use Rattle.decode.specs.Inner.Reads.{Moved}
 use Rattle.capture_blocks.specs.declared.Progress.{Progress}
 use Rattle.decode.specs.Turns.{first_run, ended_run, stopped_run, after_step, kept_bytes, step_text, end_text, Stage, stage_in, first_stage, ended_stage, stopped_stage, next_stage, next_text, stage_after}
 use Rattle.decode.specs.Turns.{count_of, block_in, by_read, turn_stage, turn_text, Reached, Prints}

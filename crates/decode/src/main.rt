@@ -1,4 +1,6 @@
 // Decodes a capture: standard input to standard output.
+#![tactic(auto)]
+
 mod run;
 mod turn;
 
@@ -34,16 +36,17 @@ fn turns_left(more: bool, turns: u64) -> u64
     0
 }
 
-fn main() {
+fn main(rt: HostRuntime) {
+    let mut input = rt.stdin();
     let mut buf = io::large_buffer();
     let mut out = output_buffer();
     let mut run = first_run();
     let mut turns: u64 = TURNS;
     while 0 < turns {
-        let answered = read_block(run.kept, &mut buf);
+        let answered = read_block(&rt, &mut input, run.kept, &mut buf);
         let laid = lay_read(run, answered, &mut buf, &mut out);
-        run = print(laid, &out);
+        run = print(&rt, laid, &out);
         turns = turns_left(run.more, turns);
     }
-    finish(run, &buf, &mut out);
+    finish(&rt, run, &buf, &mut out);
 }

@@ -5,7 +5,7 @@ ghost use Rattle.decode.specs.Inner.Sizes.{input_room, lines_most};
 
 use capture_blocks::{Progress, Step};
 
-#[derive(Drop)]
+#[derive(Clone, Copy)]
 pub(crate) struct Run {
     pub progress: Progress,
     // How many bytes at the front of the buffer belong to a line that is not complete.

@@ -2,7 +2,7 @@
 // read_block and print call the system.
 ghost use Rattle.std.specs.Prelude.{◌≡◌, ◌⊎◌, ◌+◌, ◌-◌, ◌≤◌, length};
 ghost use Rattle.text.specs.Words.{part};
-ghost use Rattle.libc.specs.Io.{Moved};
+ghost use Rattle.decode.specs.Inner.Reads.{Moved};
 ghost use Rattle.decode.specs.Turns.{ended_run, stopped_run, after_step, kept_bytes, step_text, end_text};
 ghost use Rattle.decode.specs.Turns.{stage_in, block_in, turn_stage, turn_text, Reached, Prints};
 ghost use Rattle.decode.specs.Inner.Sizes.{input_room, output_room, lines_most, Counted, Ready};
@@ -10,27 +10,34 @@ ghost use Rattle.decode.specs.Inner.Sizes.{input_room, output_room, lines_most, 
 use crate::run::{Run, advanced, ended, stopped};
 use bits::choice::lesser;
 use capture_blocks::{BlockAnswer, decode_block, decode_end, put_totals_of};
-use libc::{STDIN_FILENO, STDOUT_FILENO};
+use std::io::Read;
 use text::buffer::move_to_front;
 use text::words::part;
 
-// Reads once, behind the kept bytes, and says so where that fails.
-pub(crate) fn read_block(kept: usize, buf: &mut [u8]) -> isize
+// Says on standard error what failed.
+fn say_failed(rt: &impl Eprint, what: &str) {
+    let _ = eprintln!(rt; "{what} failed");
+}
+
+// Reads once, behind the kept bytes, and says so where that fails: it then answers -1.
+pub(crate) fn read_block(rt: &impl Eprint, input: &mut impl Read, kept: usize, buf: &mut [u8]) -> isize
     requires kept_in_bounds { kept ≤ length buf.old }
     requires buf_len { length buf.old ≡ input_room }
     ensures answer { Moved (length buf.old - kept) result }
     ensures front { part buf.new 0 kept ≡ part buf.old 0 kept }
 {
-    let answered = libc::read(STDIN_FILENO, &mut buf[kept..]);
-    if answered < 0 {
-        os::fail(b"read");
+    match input.read(&mut buf[kept..]) {
+        Ok(n) => n as isize,
+        Err(_) => {
+            say_failed(rt, "read");
+            -1
+        }
     }
-    answered
 }
 
 // How many bytes at the front of the output are to be printed, and the run to go on with once they are. Its fields are
 // private, so that main comes to that run by print alone: no text is left out, and they are printed in turn.
-#[derive(Drop)]
+#[derive(Clone, Copy)]
 pub(crate) struct Laid {
     run: Run,
     written: usize,
@@ -94,12 +101,12 @@ pub(crate) fn lay_read(run: Run, answered: isize, buf: &mut [u8], out: &mut [u8]
 }
 
 // Writes what was laid, and says so where that fails; gives the run to go on with.
-pub(crate) fn print(laid: Laid, out: &[u8]) -> Run
+pub(crate) fn print(rt: &impl Eprint, laid: Laid, out: &[u8]) -> Run
     requires { Prints laid.run (part out.now 0 laid.written) }
     ensures { (result ≡ laid.run) ⊎ (result ≡ stopped_run) }
 {
-    if !io::write_all(STDOUT_FILENO, part(out, 0, laid.written)) {
-        os::fail(b"write");
+    if !io::write_all(1, part(out, 0, laid.written)) {
+        say_failed(rt, "write");
         return stopped();
     }
     laid.run
@@ -130,11 +137,11 @@ pub(crate) fn lay_end(run: Run, rest: &[u8], out: &mut [u8]) -> Laid
 }
 
 // Prints what the kept bytes give at the end of the input, and the totals.
-pub(crate) fn finish(run: Run, buf: &[u8], out: &mut [u8])
+pub(crate) fn finish(rt: &impl Eprint, run: Run, buf: &[u8], out: &mut [u8])
     requires out_len { length out.old ≡ output_room }
     requires counted { Counted lines_most run }
     requires reached { Reached (stage_in run buf.now) }
 {
     let laid = lay_end(run, part(buf, 0, run.kept), out);
-    print(laid, out);
+    print(rt, laid, out);
 }

@@ -1,6 +1,8 @@
 // The table of open reads by value: one read from its opening to its last piece, and one that is withdrawn
 // (docs/TABLE.md). It is the read of P2: address 10020h, 64 doublewords, all bytes enabled, RCB 128 and MPS 128, whose
 // pieces are 96, 128 and 32 bytes.
+#![tactic(auto)]
+
 use byte_enables::Access;
 use reads::answer::{MakeAnswer, OpenAnswer, OwedAnswer, WithdrawAnswer};
 use reads::table::{Making, Table};

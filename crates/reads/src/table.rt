@@ -19,7 +19,7 @@ use tlp::settings::{Settings, settings_listed};
 // Fields are public, so that a table that no call reaches can be made and tried. A table is given to nobody but its
 // methods: who is given one copies it. Each of them is a thin call of a core that is given the origin and lent set
 // and words.
-#[derive(Drop)]
+#[derive(Clone, Copy)]
 pub struct Table {
     pub origin: Origin,
     pub opened: TagSet,
@@ -27,25 +27,25 @@ pub struct Table {
 }
 
 // Each call hands the next table back beside its answer.
-#[derive(Drop)]
+#[derive(Clone, Copy)]
 pub struct Making {
     pub table: Table,
     pub answer: MakeAnswer,
 }
 
-#[derive(Drop)]
+#[derive(Clone, Copy)]
 pub struct Opening {
     pub table: Table,
     pub answer: OpenAnswer,
 }
 
-#[derive(Drop)]
+#[derive(Clone, Copy)]
 pub struct Taking {
     pub table: Table,
     pub answer: TakeAnswer,
 }
 
-#[derive(Drop)]
+#[derive(Clone, Copy)]
 pub struct Withdrawal {
     pub table: Table,
     pub answer: WithdrawAnswer,

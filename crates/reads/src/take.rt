@@ -44,7 +44,7 @@ fn advance(x: State, n: u32) -> State
 }
 
 // What bytes do: the answer, and the completion's length where it is taken.
-#[derive(Drop)]
+#[derive(Clone, Copy)]
 pub(crate) struct Outcome {
     pub answer: TakeAnswer,
     pub length: u32,

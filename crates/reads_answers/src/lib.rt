@@ -1,4 +1,6 @@
 // What take answers to a packet, from the record of its tag.
+#![tactic(auto)]
+
 ghost use Rattle.std.specs.Prelude.{◌≡◌};
 ghost use Rattle.tlp.specs.Rows.{first};
 ghost use Rattle.reads_answers.specs.Takes.{read_in, piece_rows, outcome, piece_answer};
@@ -16,7 +18,7 @@ use tlp::refusal::Refusal;
 
 // What take answers: Failed with the status, Unread with the packet reader's own refusal, Refused with a number of the
 // table's.
-#[derive(Drop)]
+#[derive(Clone, Copy)]
 pub enum TakeAnswer {
     More,
     Done,

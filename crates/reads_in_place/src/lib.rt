@@ -1,4 +1,6 @@
 // One table, lent and changed in place: thin calls over the by-value core.
+#![tactic(auto)]
+
 ghost use Rattle.reads_in_place.specs.LentTable.{OpenLeaves, TakeLeaves, WithdrawLeaves, OwedLeaves};
 
 use reads::answer::{OpenAnswer, OwedAnswer, WithdrawAnswer};

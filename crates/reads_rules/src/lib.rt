@@ -1,4 +1,6 @@
 // The rules of one memory read: what open refuses of it, where its window lies, and which completions continue it.
+#![tactic(auto)]
+
 pub mod continuation;
 pub mod origin;
 pub mod piece;

@@ -1,7 +1,7 @@
 // What a table is made from; fixed for its life.
 use tlp::settings::Settings;
 
-#[derive(Drop)]
+#[derive(Clone, Copy)]
 pub struct Origin {
     pub settings: Settings,
     pub requester: u16,

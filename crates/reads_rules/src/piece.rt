@@ -6,7 +6,7 @@ use tlp::packet::{CompletionHeader, Kind, Packet, access_of, id_of, type_of};
 use tlp::packet_type::has_data;
 
 // What a packet says as a completion; with_data tells CplD from Cpl, and a Cpl has length 0.
-#[derive(Drop)]
+#[derive(Clone, Copy)]
 pub struct Piece {
     pub requester: u16,
     pub traffic_class: u8,

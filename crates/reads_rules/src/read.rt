@@ -1,7 +1,7 @@
 // A read that is open: what open got, and the doublewords taken since.
 use crate::request::ReadRequest;
 
-#[derive(Drop)]
+#[derive(Clone, Copy)]
 pub struct Read {
     pub request: ReadRequest,
     pub taken: u32,

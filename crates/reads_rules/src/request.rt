@@ -11,7 +11,7 @@ use tlp_writable::outside_of;
 
 // What open gets of a read: address, length and enables, traffic class, attributes, and where its window starts in
 // the store.
-#[derive(Drop)]
+#[derive(Clone, Copy)]
 pub struct ReadRequest {
     pub access: Access,
     pub traffic_class: u8,

@@ -4,7 +4,7 @@ ghost use Rattle.reads_rules.specs.States.{is_open};
 
 use crate::read::Read;
 
-#[derive(Drop)]
+#[derive(Clone, Copy)]
 pub enum State {
     Free,
     Open(Read),

@@ -1,4 +1,6 @@
 // Writing the bytes of a piece into the store.
+#![tactic(auto)]
+
 ghost use Rattle.std.specs.Prelude.{◌≡◌, true, ◌++◌, ℕ, ◌+◌, ◌-◌, ◌*◌, ◌%◌, ◌^◌, ◌<◌, ◌≤◌, length, take, drop};
 ghost use Rattle.bits.specs.Choice.{pick};
 ghost use Rattle.byte_enables.specs.Enables.{enabled};
@@ -82,11 +84,11 @@ fn enabled_run(a: Access, k: u64, n: usize) -> usize
 // What store_tested does, where the first run bytes are all enabled: one copy of these is many times faster than a
 // test of each.
 fn store_run_and_rest(a: Access, k: u64, run: usize, payload: &[u8], part: &mut [u8])
-    requires* fact { do ⌜ (run ≤ (← ⟦payload.len()⟧)) × (run ≤ (← ⟦part.len()⟧)) × (k + (← ⟦payload.len()⟧) < 2 ^ 64) ⌝ }
+    requires fact { (run ≤ length payload.now) × (run ≤ length part.old) × (k + length payload.now < 2 ^ 64) }
     requires by_index { (i : ℕ) → i < run → enabled a (k + i) ≡ true }
     ensures { part.new ≡ merged (enabled a) k payload.now part.old }
 {
-    bytes::copy(&payload[..run], &mut part[..run]);
+    part[..run].copy_from_slice(&payload[..run]);
     store_tested(a, k + run as u64, &payload[run..], &mut part[run..]);
 }
 
@@ -96,16 +98,16 @@ const BLOCK: usize = 4096;
 // Copies the first n bytes. They go by way of a block of their own where it holds them: the compiler then knows that
 // nothing overlaps, and makes one block copy of the two loops.
 fn copy_front(n: usize, src: &[u8], dst: &mut [u8])
-    requires* { do ⌜ (n ≤ (← ⟦src.len()⟧)) × (n ≤ (← ⟦dst.len()⟧)) ⌝ }
+    requires { (n ≤ length src.now) × (n ≤ length dst.old) }
     ensures { dst.new ≡ take n src.now ++ drop n dst.old }
 {
     if BLOCK < n {
-        bytes::copy(&src[..n], &mut dst[..n]);
+        dst[..n].copy_from_slice(&src[..n]);
         return;
     }
     let mut block = [0u8; BLOCK];
-    bytes::copy(&src[..n], &mut block[..n]);
-    bytes::copy(&block[..n], &mut dst[..n]);
+    block[..n].copy_from_slice(&src[..n]);
+    dst[..n].copy_from_slice(&block[..n]);
 }
 
 // Whether the n bytes from byte k on are all enabled, as the enables of the first and the last doubleword alone show
@@ -125,7 +127,7 @@ fn all_enabled(a: Access, k: u64, n: usize) -> bool
 // What store_tested does, by runs: first the h bytes before the run that is all enabled, then that run and what
 // follows it. Neither slice is shorter than n.
 fn store_runs(a: Access, k: u64, n: usize, payload: &[u8], part: &mut [u8])
-    requires* { do ⌜ (n ≤ (← ⟦payload.len()⟧)) × (n ≤ (← ⟦part.len()⟧)) × (k + (← ⟦payload.len()⟧) < 2 ^ 64) ⌝ }
+    requires { (n ≤ length payload.now) × (n ≤ length part.old) × (k + length payload.now < 2 ^ 64) }
     ensures { part.new ≡ merged (enabled a) k payload.now part.old }
 {
     let h = lesser(bytes_up_to(enabled_from(a), k), n);

@@ -1,4 +1,6 @@
 // What a table keeps: a bit for each tag that is open, and four words for each tag's read.
+#![tactic(auto)]
+
 pub mod tag_set;
 pub mod words;
 

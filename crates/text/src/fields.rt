@@ -9,7 +9,7 @@ use crate::number::Parsed;
 use crate::words::{Value, part, starts_with, value_at};
 
 // Whether the line is good up to here, the last value, and the index after it.
-#[derive(Drop)]
+#[derive(Clone, Copy)]
 pub struct Field {
     pub good: bool,
     pub value: u64,

@@ -81,7 +81,7 @@ pub fn hex_only(text: &[u8]) -> bool
 }
 
 // How many bytes were spelled.
-#[derive(Drop)]
+#[derive(Clone, Copy)]
 pub enum Spelled {
     Bytes(usize),
     Bad,

@@ -15,7 +15,7 @@ pub const MOST_32: u64 = 4294967295;
 pub const MOST_64: u64 = 18446744073709551615;
 
 // What a text spells.
-#[derive(Drop)]
+#[derive(Clone, Copy)]
 pub enum Parsed {
     Number(u64),
     Bad,

@@ -55,7 +55,7 @@ pub fn starts_with(line: &[u8], at: usize, key: &[u8]) -> bool
 }
 
 // The place of a key's value: from index from up to index to.
-#[derive(Drop)]
+#[derive(Clone, Copy)]
 pub enum Value {
     Found { from: usize, to: usize },
     Missing,

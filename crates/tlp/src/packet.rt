@@ -6,7 +6,7 @@ use crate::packet_type::PacketType;
 use byte_enables::Access;
 
 // Where an implicitly routed message goes: routing 000, 011, 100, 101.
-#[derive(Drop)]
+#[derive(Clone, Copy)]
 pub enum Implicit {
     Root,
     Broadcast,
@@ -15,7 +15,7 @@ pub enum Implicit {
 }
 
 // Memory and I/O go by address, configuration by target ID, completions by requester ID, messages by their routing.
-#[derive(Drop)]
+#[derive(Clone, Copy)]
 pub enum Route {
     Address(u64),
     Id(u16),
@@ -23,7 +23,7 @@ pub enum Route {
 }
 
 // A memory or I/O request; its address is the route.
-#[derive(Drop)]
+#[derive(Clone, Copy)]
 pub struct Request {
     pub requester: u16,
     pub tag: u8,
@@ -33,7 +33,7 @@ pub struct Request {
 }
 
 // A configuration request; its target is the route.
-#[derive(Drop)]
+#[derive(Clone, Copy)]
 pub struct ConfigRequest {
     pub request: Request,
     pub extended_register: u8,
@@ -41,7 +41,7 @@ pub struct ConfigRequest {
 }
 
 // A message; body is bytes 8 to 15, carried whole.
-#[derive(Drop)]
+#[derive(Clone, Copy)]
 pub struct MessageRequest {
     pub requester: u16,
     pub tag: u8,
@@ -50,7 +50,7 @@ pub struct MessageRequest {
 }
 
 // A completion; its requester is the route.
-#[derive(Drop)]
+#[derive(Clone, Copy)]
 pub struct CompletionHeader {
     pub completer: u16,
     pub status: u8,
@@ -61,7 +61,7 @@ pub struct CompletionHeader {
 }
 
 // What a packet is, with the fields that only packets of that kind have.
-#[derive(Drop)]
+#[derive(Clone, Copy)]
 pub enum Kind {
     MemoryRead(Request),
     MemoryWrite(Request),
@@ -84,7 +84,7 @@ pub enum Kind {
 }
 
 // What reading gives and writing takes.
-#[derive(Drop)]
+#[derive(Clone, Copy)]
 pub struct Packet {
     pub traffic_class: u8,
     pub attributes: u8,

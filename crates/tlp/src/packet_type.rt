@@ -6,7 +6,7 @@ ghost use Rattle.tlp.specs.PacketTypes.{type_at, header_dw, has_data, first_byte
 ghost use Rattle.tlp.specs.Inner.PacketTypes.{family_by_type};
 
 // The rows of the kind table.
-#[derive(Drop)]
+#[derive(Clone, Copy)]
 pub enum PacketType {
     MRd32,
     MRd64,
@@ -27,7 +27,7 @@ pub enum PacketType {
 }
 
 // Types that fall under the same rules.
-#[derive(Drop)]
+#[derive(Clone, Copy)]
 pub enum Family {
     Memory,
     Io,

@@ -1,5 +1,5 @@
 // The packet reader's refusal: its number from the list in numbers.txt.
-#[derive(Drop)]
+#[derive(Clone, Copy)]
 pub struct Refusal {
     pub number: u32,
 }

@@ -4,7 +4,7 @@ ghost use Rattle.bits.specs.Choice.{one_of};
 ghost use Rattle.tlp.specs.Settings.{sizes, boundaries, settings_listed};
 
 // Maximum payload size, maximum read request size and read completion boundary, in bytes.
-#[derive(Drop)]
+#[derive(Clone, Copy)]
 pub struct Settings {
     pub mps: u32,
     pub mrrs: u32,

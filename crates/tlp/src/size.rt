@@ -8,7 +8,7 @@ use crate::packet_type::{PacketType, family_of, has_data, header_dw, is_unlisted
 use bits::word::byte_at;
 
 // How many bytes a packet has, or the number that says why that can't be told.
-#[derive(Drop)]
+#[derive(Clone, Copy)]
 pub enum PacketSize {
     Bytes(usize),
     Refused(u32),

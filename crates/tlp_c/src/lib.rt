@@ -1,4 +1,6 @@
 // The C face: reader and writer over numbers and byte slices. docs/RECORD.md lists the record's layout.
+#![tactic(auto)]
+
 ghost use Rattle.std.specs.Prelude.{◌≡◌, length};
 ghost use Rattle.tlp_read.specs.Read.{read_packet};
 ghost use Rattle.tlp_c.specs.Calls.{settings_of, write_number, written_size};

@@ -1,1 +1,2 @@
 // Round trips between reader and writer: theorems over their definitions, and no code.
+#![tactic(auto)]

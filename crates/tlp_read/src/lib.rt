@@ -1,4 +1,6 @@
 // Reading packets.
+#![tactic(auto)]
+
 pub mod completion;
 pub mod fields;
 mod rows;
@@ -16,7 +18,7 @@ use tlp::settings::{Settings, settings_listed};
 use tlp::size::data_bytes;
 
 // What reading answers.
-#[derive(Drop)]
+#[derive(Clone, Copy)]
 pub enum ReadAnswer {
     Accepted(Packet),
     Refused(Refusal),

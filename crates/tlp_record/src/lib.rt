@@ -1,9 +1,11 @@
 // The packet record: a packet as 48 bytes, and back. What it is stands in specs/; crate tlp_record_read lays it, crate
 // tlp_record_write reads it.
+#![tactic(auto)]
+
 pub mod places;
 
 // A kind's number and the fields that only some kinds have, each 0 where the kind has none.
-#[derive(Drop)]
+#[derive(Clone, Copy)]
 pub struct KindFields {
     pub kind: u8,
     pub tag: u8,

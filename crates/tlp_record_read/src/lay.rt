@@ -29,7 +29,7 @@ fn lay(at: usize, part: [u8; 8], record: &mut [u8])
     requires { at + 8 ≤ length «record».old }
     ensures { «record».new ≡ put at part «record».old }
 {
-    bytes::copy(&part, &mut record[at..]);
+    record[at..at + 8].copy_from_slice(&part);
 }
 
 // Eight bytes that come from several fields: not joined to one number first.
@@ -53,7 +53,7 @@ fn lay_number(at: usize, n: u32, record: &mut [u8])
     ensures { «record».new ≡ put at (bytes 4 n) «record».old }
 {
     let part = bytes32(n);
-    bytes::copy(&part, &mut record[at..]);
+    record[at..at + 4].copy_from_slice(&part);
 }
 
 // The route's value, and a message's body.

@@ -1,4 +1,6 @@
 // Reading a packet straight into a record's bytes: no packet is made.
+#![tactic(auto)]
+
 mod lay;
 
 ghost use Rattle.std.specs.Prelude.{◌≡◌, length};

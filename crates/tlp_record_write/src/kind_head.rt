@@ -26,7 +26,7 @@ use tlp_write::words::{
     Words, completion_words, config_words, io_words, memory_words, message_words,
 };
 
-#[derive(Drop)]
+#[derive(Clone, Copy)]
 pub struct KindHead {
     pub fits: bool,
     pub packet_type: PacketType,

@@ -1,4 +1,6 @@
 // Writing the packet that a record describes, straight from the record's bytes: no packet is made.
+#![tactic(auto)]
+
 mod kind_head;
 mod kinds;
 mod place;

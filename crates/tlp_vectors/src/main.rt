@@ -5,6 +5,8 @@
 //   w MPS MRRS RCB ROOM LENGTH RECORD PAYLOAD
 // with eight hexadecimal digits for a setting, four for the output's room and the record's length,
 // and two for each byte.
+#![tactic(auto)]
+
 ghost use Rattle.std.specs.Prelude.{◌≤◌, ◌<◌, ◌^◌, length};
 
 use bits::choice::lesser;
@@ -12,6 +14,7 @@ use bits::word::byte_at;
 use text::buffer::move_to_front;
 use text::fields::{Field, hex_after, line_start};
 use text::hex::{Spelled, hex_bytes, put_hex};
+use text::lines::line_end;
 use text::words::{Value, part, value_at};
 use tlp::settings::Settings;
 use tlp_read::ReadAnswer;
@@ -32,7 +35,7 @@ fn four_hex(line: &[u8], before: Field, key: &[u8]) -> Field
 }
 
 // How many bytes were spelled, and the index after their digits.
-#[derive(Drop)]
+#[derive(Clone, Copy)]
 struct SpelledPart {
     size: usize,
     next: usize,
@@ -76,7 +79,7 @@ fn print_number(n: u64) {
 }
 
 // The settings of a line, and the last field of them.
-#[derive(Drop)]
+#[derive(Clone, Copy)]
 struct SettingsPart {
     settings: Settings,
     end: Field,
@@ -176,7 +179,7 @@ fn run_line(line: &[u8]) {
 }
 
 // How many lines were run, and where the first one that has no end yet starts.
-#[derive(Drop)]
+#[derive(Clone, Copy)]
 struct Ran {
     lines: u64,
     used: usize,
@@ -188,7 +191,7 @@ fn run_lines(text: &[u8]) -> Ran
     let mut lines: u64 = 0;
     let mut at: usize = 0;
     while at < text.len() {
-        let end = bytes::scan::find(text, at, text.len(), b'\n');
+        let end = line_end(text, at);
         if end == text.len() {
             return Ran {
                 lines: lines,
@@ -206,7 +209,7 @@ fn run_lines(text: &[u8]) -> Ran
 }
 
 // What one turn leaves: the bytes kept, the lines run, and whether anything was read.
-#[derive(Drop)]
+#[derive(Clone, Copy)]
 struct Turn {
     kept: usize,
     lines: u64,

@@ -1,4 +1,6 @@
 // The writer's first place for 6: what a packet must not hold.
+#![tactic(auto)]
+
 ghost use Rattle.std.specs.Prelude.{◌≡◌, ◌||◌, not, ◌%◌, eqb};
 ghost use Rattle.tlp.specs.Rows.{first};
 ghost use Rattle.tlp_writable.specs.Given.{over, outside, length_bad, common_bad, request_bad, config_bad, message_bad, completion_bad, own_bad, reserved_given};

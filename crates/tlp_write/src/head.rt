@@ -11,7 +11,7 @@ use tlp::content::fault_of;
 use tlp::packet::{Implicit, Kind, Packet, Route, access_of, type_of};
 use tlp::packet_type::{PacketType, family_of, first_byte};
 
-#[derive(Drop)]
+#[derive(Clone, Copy)]
 pub struct Head {
     pub packet_type: PacketType,
     // What byte 0 has beside the type: a message's routing.

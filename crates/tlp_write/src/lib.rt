@@ -1,4 +1,6 @@
 // Writing packets.
+#![tactic(auto)]
+
 pub mod head;
 mod put;
 pub mod words;
@@ -20,7 +22,7 @@ use tlp::settings::{Settings, settings_listed};
 use tlp::size::{data_bytes, digest_bytes};
 use tlp_writable::given_number;
 
-#[derive(Drop)]
+#[derive(Clone, Copy)]
 pub enum WriteAnswer {
     Written(usize),
     Refused(u32),

@@ -14,7 +14,9 @@ pub(crate) fn put_at(at: usize, src: &[u8], out: &mut [u8]) -> usize
     ensures { (result ≡ at + length src.now)
         × (out.new ≡ put at src.now out.old) }
 {
-    at + bytes::copy(src, &mut out[at..])
+    let end = at + src.len();
+    out[at..end].copy_from_slice(src);
+    end
 }
 
 // The same for numbers of eight and four bytes.

@@ -13,7 +13,7 @@ use tlp::packet::{
 
 // Bytes 4 to 7, and bytes 8 to 15; a header of three doublewords ends after the high half of these, and the low half is
 // 0.
-#[derive(Drop)]
+#[derive(Clone, Copy)]
 pub struct Words {
     pub second: u32,
     pub tail: u64,

@@ -1,0 +1,8 @@
+use borrow.Author.Rules.{rules}
+use Prim.Native.Nat.{◌%◌}
+use native.Mathlib.Omega.{arith}
+use Rattle.bits.proofs.CountLaws.{ones-set}
+use Rattle.bits.proofs.count.set_bits.Goals as goal
+
+pub returns : goal.returns
+returns c = ones-set 4 (c.args.x % 16) (omega arith)

@@ -1,0 +1,6 @@
+use borrow.Author.Rules.{rules}
+use native.Mathlib.Nat.{div-one}
+use Rattle.bits.proofs.word.bytes16.Goals as goal
+
+pub returns : goal.returns
+returns c = rw div-one
