@@ -1,0 +1,9 @@
+use Rattle.byte_enables.proofs.Returns.{at-laws}
+use borrow.Author.Rules.{rules}
+use Rattle.byte_enables.proofs.enabled_at.Goals as goal
+
+pub returns-then-a-i : goal.returns-then-a-i
+returns-then-a-i c = search at-laws
+
+pub returns : goal.returns
+returns c = search at-laws

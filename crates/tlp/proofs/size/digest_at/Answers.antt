@@ -1,0 +1,7 @@
+use Rattle.tlp.specs.Sizes.{digest_at}
+use borrow.Author.Rules.{rules}
+use Rattle.tlp.proofs.size.digest_at.Goals as goal
+
+pub returns : goal.returns
+unfolding digest_at
+returns c = cc
