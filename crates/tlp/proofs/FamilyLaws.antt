@@ -1,10 +1,10 @@
 -- The types of a family: what holds of each of them holds of any type of the family.
 use Prim.Native.Nat.{ℕ}
 use mathlib.Core.Path.{◌≡◌, refl, sym, ap, ◌∙◌}
-use mathlib.Core.Bool.{Bool, true, false, true≢false}
+use mathlib.Core.Bool.{false, true≢false}
 use lib.Dec.{eqb}
 use borrow.Author.Tests.{eq-eqb}
-use Rattle.tlp.specs.PacketTypes.{family_of, is_unlisted, is_io_or_config}
+use Rattle.tlp.specs.PacketTypes.{family_of}
 use Rattle.tlp.specs.declared.packet_type.Family.{Family}
 use Rattle.tlp.specs.declared.packet_type.Family.TheVariants.{Memory, Io, Config, Message, Completion, Unlisted as NoFamily}
 use Rattle.tlp.specs.declared.packet_type.PacketType.{PacketType}

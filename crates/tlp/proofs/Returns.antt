@@ -1,5 +1,5 @@
 -- One law for each function that goes by cases, in the words of its returns.
-use Prim.Native.Nat.{ℕ, zero, suc, ◌+◌, ◌*◌, ◌/◌, ◌%◌, ◌^◌, ◌≤◌}
+use Prim.Native.Nat.{ℕ, zero, suc, ◌/◌, ◌≤◌}
 use native.Mathlib.Omega.{arith}
 use mathlib.Core.List.{List, [], ◌∷◌}
 use lib.ListN.{length}
@@ -7,14 +7,14 @@ use lib.Dec.{eqb, leb}
 use borrow.Author.Tests.{ne_eqb, le-leb, lt-leb, leb-true}
 use native.Mathlib.Nat.{lt_of_not-le}
 use Rattle.bits.specs.Word.{byte}
-use mathlib.Core.Path.{◌≡◌, refl, sym, ap, ◌∙◌}
+use mathlib.Core.Path.{◌≡◌, refl, ap}
 use mathlib.Core.Bool.{Bool, true, false, not, ◌&&◌, and-false}
 use Rattle.byte_enables.specs.declared.Access.{Access}
 use Rattle.byte_enables.specs.Enables.{enables_allowed}
 use Rattle.tlp.specs.declared.packet.Kind.{Kind}
 use Rattle.tlp.specs.declared.packet.Packet.{Packet}
 use Rattle.tlp.specs.declared.packet_type.PacketType.{PacketType}
-use Rattle.tlp.specs.declared.packet_type.PacketType.TheVariants.{Msg, MsgD, Unlisted}
+use Rattle.tlp.specs.declared.packet_type.PacketType.TheVariants.{Msg, MsgD}
 use Rattle.tlp.specs.declared.packet_type.Family.{Family}
 use Rattle.tlp.specs.declared.size.PacketSize.TheVariants.{Bytes, Refused}
 use Rattle.tlp.specs.Rows.{row, first}

@@ -1,6 +1,6 @@
 -- Document 01, rows 5 to 8 of the number table, over decoded values, so that the writer's "5 to 9 as above" is the same
 -- definition. All to be believed.
-use Rattle.std.specs.Prelude.{ℕ, ◌+◌, ◌*◌, ◌%◌, ◌/◌, ◌^◌, Bool, true, false, ◌||◌, ◌&&◌, not, List, [], ◌∷◌, eqb, ltb}
+use Rattle.std.specs.Prelude.{ℕ, ◌+◌, ◌*◌, ◌%◌, Bool, false, ◌||◌, ◌&&◌, not, List, [], ◌∷◌, eqb, ltb}
 use Rattle.bits.specs.Field.{low}
 use Rattle.byte_enables.specs.declared.Access.{Access}
 use Rattle.byte_enables.specs.Enables.{enables_allowed}

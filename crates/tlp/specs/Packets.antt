@@ -1,5 +1,5 @@
 -- What a packet's fields say of the packet as a whole. All to be believed.
-use Rattle.std.specs.Prelude.{ℕ, ◌^◌, Bool, true, false, ltb}
+use Rattle.std.specs.Prelude.{ℕ, ◌^◌, ltb}
 use Rattle.bits.specs.Choice.{pick}
 use Rattle.byte_enables.specs.declared.Access.{Access}
 use Rattle.tlp.specs.declared.packet.Route.{Route}

@@ -1,5 +1,5 @@
 -- Document 01: the size that a header calls for, "header + data + digest". All to be believed.
-use Rattle.std.specs.Prelude.{ℕ, zero, suc, ◌+◌, ◌*◌, ◌/◌, ◌%◌, ◌^◌, Bool, true, false, ◌&&◌, List, [], ◌∷◌, eqb, ltb, length}
+use Rattle.std.specs.Prelude.{ℕ, zero, suc, ◌+◌, ◌*◌, Bool, ◌&&◌, List, [], ◌∷◌, eqb, ltb, length}
 use Rattle.bits.specs.Choice.{pick}
 use Rattle.bits.specs.Field.{low, bit}
 use Rattle.bits.specs.Word.{byte}

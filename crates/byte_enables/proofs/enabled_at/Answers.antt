@@ -1,5 +1,4 @@
 use Rattle.byte_enables.proofs.Returns.{at-laws}
-use borrow.Author.Rules.{rules}
 use Rattle.byte_enables.proofs.enabled_at.Goals as goal
 
 pub returns-then-a-i : goal.returns-then-a-i

@@ -1,4 +1,3 @@
-use borrow.Author.Rules.{rules}
 use Rattle.byte_enables.proofs.Returns.{below_laws}
 use Rattle.byte_enables.proofs.enabled_below.Goals as goal
 

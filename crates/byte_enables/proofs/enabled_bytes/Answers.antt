@@ -1,4 +1,3 @@
-use borrow.Author.Rules.{rules}
 use native.Mathlib.Omega.{arith}
 use Rattle.byte_enables.proofs.Laws.{enabled-from}
 use Rattle.byte_enables.proofs.enabled_bytes.Goals as goal

@@ -1,4 +1,3 @@
-use borrow.Author.Rules.{rules}
 use Rattle.byte_enables.proofs.Returns.{allowed-laws}
 use Rattle.byte_enables.proofs.enables_allowed.Goals as goal
 

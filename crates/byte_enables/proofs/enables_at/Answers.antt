@@ -1,4 +1,3 @@
-use borrow.Author.Rules.{rules}
 use Rattle.byte_enables.proofs.Returns.{at-laws}
 use Rattle.byte_enables.proofs.enables_at.Goals as goal
 

@@ -1,4 +1,3 @@
-use borrow.Author.Rules.{rules}
 use Rattle.byte_enables.proofs.Returns.{end-laws}
 use Rattle.byte_enables.proofs.off_of.Goals as goal
 

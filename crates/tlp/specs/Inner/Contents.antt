@@ -1,5 +1,5 @@
 -- Serves the contracts of `content::memory_fault` and `content::register_fault`.
-use Rattle.std.specs.Prelude.{ℕ, Bool, not, List, [], ◌∷◌}
+use Rattle.std.specs.Prelude.{ℕ, not, List, [], ◌∷◌}
 use Rattle.byte_enables.specs.declared.Access.{Access}
 use Rattle.byte_enables.specs.Enables.{enables_allowed}
 use Rattle.tlp.specs.Rows.{Row, row}

@@ -1,5 +1,5 @@
 -- Serves the contract of `packet_type::family_by_type`.
-use Rattle.std.specs.Prelude.{ℕ, Bool, eqb}
+use Rattle.std.specs.Prelude.{ℕ, eqb}
 use Rattle.bits.specs.Choice.{pick}
 use Rattle.tlp.specs.declared.packet_type.Family.{Family}
 use Rattle.tlp.specs.declared.packet_type.Family.TheVariants.{Memory, Io, Config, Message, Completion}

@@ -1,7 +1,6 @@
 use Rattle.tlp.specs.Rows.{first}
 use Rattle.tlp.proofs.Returns.{fault-law}
 use Rattle.tlp.specs.Contents.{plain_bad, enables_bad, page_bad}
-use borrow.Author.Rules.{rules}
 use Rattle.tlp.proofs.content.fault_of.Goals as goal
 
 pub returns-in-Memory : goal.returns-in-Memory

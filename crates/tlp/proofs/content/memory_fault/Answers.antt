@@ -1,5 +1,4 @@
 use Rattle.tlp.proofs.RowLaws.{rows}
-use borrow.Author.Rules.{rules}
 use Rattle.tlp.proofs.content.memory_fault.Goals as goal
 
 pub returns-then-not-enables_allowed : goal.returns-then-not-enables_allowed

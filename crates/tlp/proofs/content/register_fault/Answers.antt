@@ -1,6 +1,5 @@
 use Rattle.tlp.proofs.RowLaws.{rows}
 use Rattle.tlp.proofs.Returns.{register-law}
-use borrow.Author.Rules.{rules}
 use Rattle.tlp.proofs.content.register_fault.Goals as goal
 
 pub returns-then-not_plain : goal.returns-then-not_plain

@@ -1,5 +1,4 @@
 use Rattle.tlp.proofs.Returns.{access-law}
-use borrow.Author.Rules.{rules}
 use Rattle.tlp.proofs.packet.access_of.Goals as goal
 
 pub returns-in-MemoryRead : goal.returns-in-MemoryRead

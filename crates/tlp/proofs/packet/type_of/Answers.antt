@@ -1,5 +1,4 @@
 use Rattle.tlp.proofs.Returns.{type-law}
-use borrow.Author.Rules.{rules}
 use Rattle.tlp.proofs.packet.type_of.Goals as goal
 
 pub returns-in-MemoryRead : goal.returns-in-MemoryRead

@@ -1,6 +1,5 @@
 use Rattle.bits.proofs.ChoiceLaws.{and-laws}
 use Rattle.tlp.specs.Settings.{settings_listed}
-use borrow.Author.Rules.{rules}
 use Rattle.tlp.proofs.settings.settings_listed.Goals as goal
 
 pub returns-then-size_listed-2 : goal.returns-then-size_listed-2

@@ -1,7 +1,6 @@
 use native.Mathlib.Omega.{arith}
 use Rattle.tlp.proofs.Bounds.{header-le, data-le, digest-le}
 use Rattle.tlp.specs.Sizes.{bytes_called}
-use borrow.Author.Rules.{rules}
 use Rattle.tlp.proofs.size.bytes_called.Goals as goal
 
 pub overflow_mul-result : goal.overflow_mul-result

@@ -1,5 +1,4 @@
 use Rattle.tlp.specs.Sizes.{data_bytes}
-use borrow.Author.Rules.{rules}
 use Rattle.tlp.proofs.size.data_bytes.Goals as goal
 
 pub returns-then-has_data : goal.returns-then-has_data

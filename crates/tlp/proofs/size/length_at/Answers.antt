@@ -1,5 +1,4 @@
 use Rattle.tlp.specs.Sizes.{length_at}
-use borrow.Author.Rules.{rules}
 use Rattle.tlp.proofs.size.length_at.Goals as goal
 
 pub returns : goal.returns

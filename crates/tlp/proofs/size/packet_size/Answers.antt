@@ -1,5 +1,4 @@
 use Rattle.tlp.proofs.Returns.{size-laws}
-use borrow.Author.Rules.{rules}
 use Rattle.tlp.proofs.size.packet_size.Goals as goal
 
 pub returns-then-n-ne0 : goal.returns-then-n-ne0

@@ -1,5 +1,4 @@
 use Rattle.bits.proofs.ChoiceLaws.{and-laws}
-use borrow.Author.Rules.{rules}
 use Rattle.tlp.proofs.size.short_of_four.Goals as goal
 
 pub returns-then-header_dw-eq4 : goal.returns-then-header_dw-eq4

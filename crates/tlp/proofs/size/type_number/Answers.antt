@@ -1,5 +1,4 @@
 use Rattle.tlp.proofs.RowLaws.{rows}
-use borrow.Author.Rules.{rules}
 use Rattle.tlp.proofs.size.type_number.Goals as goal
 
 pub returns-then-n-lt12 : goal.returns-then-n-lt12
