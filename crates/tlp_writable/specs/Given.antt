@@ -1,7 +1,6 @@
 -- Document 01: what a packet that is to be written must not hold, the writer's first place for 6. All to be believed.
-use Rattle.std.specs.Prelude.{ℕ, ◌+◌, ◌*◌, ◌/◌, ◌%◌, ◌^◌, Bool, true, false, ◌||◌, ◌&&◌, not, List, [], ◌∷◌, eqb, leb}
-use Rattle.bits.specs.Choice.{pick}
-use Rattle.bits.specs.Field.{bit, field}
+use Rattle.std.specs.Prelude.{ℕ, ◌%◌, ◌^◌, Bool, true, false, ◌||◌, ◌&&◌, not, List, [], ◌∷◌, eqb, leb}
+use Rattle.bits.specs.Field.{field}
 use Rattle.tlp.specs.Rows.{Row, row}
 use Rattle.tlp.specs.PacketTypes.{family_of, is_io_or_config}
 use Rattle.tlp.specs.Packets.{type_of}
