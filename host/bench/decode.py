@@ -28,7 +28,7 @@ sys.path.insert(0, str(ROOT / "host" / "second"))
 import capture
 from make_vectors import packet
 
-DECODE = ROOT / "target" / "bin" / "decode"
+DECODE = ROOT / "crates" / "decode" / "out" / "decode"
 SOURCE = ROOT / "host" / "second" / "decode_plain.c"
 
 CAPTURE_SIZE = 200_000_000
@@ -225,7 +225,7 @@ def report(rounds, names):
 def main():
     """Make the capture, compare, measure; 0 when all is equal and within its bounds."""
     if not os.access(DECODE, os.X_OK):
-        print("target/bin/decode is missing: run ./tollpebble decode once", file=sys.stderr)
+        print("crates/decode/out/decode is missing: run ./tollpebble decode once", file=sys.stderr)
         return 1
     for tool in ("cc", "cat"):
         if shutil.which(tool) is None:

@@ -31,6 +31,7 @@ from typing import NamedTuple
 sys.dont_write_bytecode = True
 
 ROOT = Path(__file__).resolve().parent.parent.parent
+CRATES = ROOT / "crates"
 BENCH = ROOT / "host" / "bench"
 SECOND = ROOT / "host" / "second"
 FLAGS = ("-std=c11", "-O2", "-Wall", "-Wextra", "-Werror", "-I", SECOND)
@@ -77,9 +78,9 @@ class Work(NamedTuple):
     opened: int
 
 
-def run_checked(command, what):
-    """Run a command of the build; one line where it fails."""
-    made = subprocess.run(command, cwd=ROOT, capture_output=True, text=True)
+def run_checked(command, what, folder=ROOT):
+    """Run a command of the build, on empty input; one line where it fails."""
+    made = subprocess.run(command, cwd=folder, stdin=subprocess.DEVNULL, capture_output=True, text=True)
     if made.returncode != 0:
         sys.exit("reads: %s\n%s" % (what, (made.stdout + made.stderr)[-2000:]))
 
@@ -90,30 +91,40 @@ def compiled(path, *arguments):
     return Program(path)
 
 
+def executable(tree, name):
+    """Where a program of a tree is left: in its crate's folder, or in target/bin by an older kit."""
+    places = tree / "crates" / name / "out" / name, tree / "target" / "bin" / name
+    return next((place for place in places if place.exists()), None)
+
+
+def proved(name):
+    """A proved program: rt run proves it, builds it, and runs it once, on nothing."""
+    run_checked(["rt", "run"], "%s is not proved or not built" % name, CRATES / name)
+    return CRATES / name / "out" / name
+
+
 def build(folder):
     """The programs by name."""
-    run_checked(["rt", "check", "bench_by_value", "bench_in_place", "bench_every_way"],
-                "the proved programs are not proved or not built")
-    run_checked(["rt", "staticlib", "bench_lent"], "the lent core is not proved or not built")
-    proved = ROOT / "target" / "bin"
+    by_value, in_place, every_way = (proved(name) for name in ("bench_by_value", "bench_in_place", "bench_every_way"))
+    run_checked(["rt", "lib"], "the lent core is not proved or not built", CRATES / "bench_lent")
     return {
         "256 slots": compiled(folder / "256 slots", "-DPLAIN_SLOTS=256", *PLAIN),
         "256 by pointer": compiled(folder / "256 by pointer", "-DPLAIN_BY_POINTER", *PLAIN),
         "set": compiled(folder / "set", "-DPLAIN_SET", *PLAIN),
         "core lent": compiled(folder / "core lent", BENCH / "reads_lent.c",
-                              ROOT / "target" / "staticlib" / "libbench_lent.a"),
-        "by value": Program(proved / "bench_by_value"),
-        "in place": Program(proved / "bench_in_place"),
-        "by value, apart": Program(proved / "bench_every_way", "value "),
-        "in place, apart": Program(proved / "bench_every_way", "place "),
-        "core apart": Program(proved / "bench_every_way", "lent "),
+                              CRATES / "bench_lent" / "out" / "libbench_lent.a"),
+        "by value": Program(by_value),
+        "in place": Program(in_place),
+        "by value, apart": Program(every_way, "value "),
+        "in place, apart": Program(every_way, "place "),
+        "core apart": Program(every_way, "lent "),
     }
 
 
 def build_beside(tree, folder):
     """The programs of a tree with room for 32 tags, whose lines say no tag, and plain C with that room."""
-    value, place = (tree / "target" / "bin" / name for name in ("bench_by_value", "bench_in_place"))
-    if not (value.exists() and place.exists()):
+    value, place = (executable(tree, name) for name in ("bench_by_value", "bench_in_place"))
+    if not (value and place):
         sys.exit("reads: the programs of %s are not built" % tree)
     return {"32 slots": compiled(folder / "32 slots", "-DPLAIN_SLOTS=32", *PLAIN),
             "older by value": Program(value, tag=""), "older in place": Program(place, tag="")}

@@ -42,7 +42,7 @@ def found(pattern):
 
 def crates():
     lines = (line.split("#")[0].strip() for line in read("crates.txt").splitlines())
-    return [line.split(":")[0] for line in lines if line]
+    return [line.split(":")[0].split()[0] for line in lines if line]
 
 
 # ---- names
@@ -201,13 +201,14 @@ def contract_faults(crate, function, bracket, own):
         if re.search(r"->|&mut ", text):
             yield "states nothing"
         return
-    words = set(re.findall(r"[\w-]+", stated))
-    parts = function.split("_")
-    same = not own and parts[0] + "".join(p.capitalize() for p in parts[1:]) in words
+    # Neither a clause's own name, nor what stands behind a dot, nor a parameter is a definition.
+    clauses = re.sub(r"\bensures \w+ \{", "ensures {", "ensures" + stated)
+    words = set(re.findall(r"(?<![\w.-])[\w-]+", clauses)) - set(re.findall(r"(\w+): ", text.partition("ensures")[0]))
+    same = not own and function in words
     if not same and not (bracket and all(name in words for name in marked(bracket))):
         yield "does not have the definition beside it"
     for lent in re.findall(r"(\w+): &mut ", text):
-        if not re.search(r"\(«?%s»? \.exit\)" % lent, text):
+        if not re.search(r"(?<![\w.-])«?%s»?\.new\b" % lent, stated):
             yield "does not say what it leaves in " + lent
 
 

@@ -43,9 +43,12 @@ def statements(crate):
 
 def is_proved(crate, theorem, file):
     """Whether a file of the proofs takes the theorem from the file that states it, and proves it."""
-    taken = re.compile(r"(?m)^use Rattle·%s·specs\.specs\.%s\.\{(?:.*, )?%s(?:, .*)?\}$" % (crate, file, theorem))
+    taken = re.compile(r"(?m)^use Rattle\.%s\.specs\.%s\.\{([^}]*)\}$" % (crate, file))
     proof = re.compile(r"(?m)^pub [\w-]+ : %s$" % theorem)
-    return any(taken.search(text) and proof.search(text) for text in listed(crate, "proofs").values())
+    return any(
+        proof.search(text) and any(theorem in re.split(r",\s*", names.strip()) for names in taken.findall(text))
+        for text in listed(crate, "proofs").values()
+    )
 
 
 def definitions():
