@@ -26,16 +26,17 @@ PASS_ON = "#!/bin/sh\nprintf 'decoded '\nexec cat\n"
 COMPLAIN = "#!/bin/sh\ncat\necho 'decode: a read failed' >&2\n"
 KILLED = "#!/bin/sh\nkill -TERM $$\n"
 
-# A stand-in for rt: it notes its words, is noisy and reads, as a true one might, and makes the program.
+# A stand-in for rt, called in the decoder's crate: it notes its words, is noisy and reads, as a true one might, and makes
+# the program.
 RT_GOOD = """#!/bin/sh
-echo "$@" >>rt-words
+echo "$@" >>../../rt-words
 cat
 echo noise
 echo noise >&2
-mkdir -p target/bin
-cp stand-in target/bin/decode
+mkdir -p out
+cp ../../stand-in out/decode
 """
-RT_IDLE = "#!/bin/sh\necho \"$@\" >>rt-words\n"
+RT_IDLE = "#!/bin/sh\necho \"$@\" >>../../rt-words\n"
 RT_FAILING = "#!/bin/sh\necho 'not proved'\nexit 1\n"
 
 OLD, NEW, NEWER = 1_000_000_000, 1_000_000_100, 1_000_000_200
@@ -58,7 +59,8 @@ class Place:
         self.tools = self.base / "tools"
         self.command = self.root / "tollpebble"
         self.program = self.root / "target" / "bin" / "decode"
-        for path in (self.root / "crates" / "one", self.user, self.tools):
+        self.built = self.root / "crates" / "decode" / "out"
+        for path in (self.root / "crates" / "one", self.built.parent, self.user, self.tools):
             path.mkdir(parents=True)
         for name in ("tollpebble", "numbers.txt"):
             shutil.copy(ROOT / name, self.root)
@@ -212,7 +214,7 @@ def expect_build(place, what, calls):
     before = place.rt_words().count("\n")
     status, printed, said = place.run("decode", given=b"text\n")
     require((status, printed) == (0, "decoded text\n"), "%s: %d, %r", what, status, printed)
-    require(place.rt_words() == "check decode\n" * calls, "%s: rt got %r", what, place.rt_words())
+    require(place.rt_words() == "run\n" * calls, "%s: rt got %r", what, place.rt_words())
     require(said.count("\n") == calls - before and ("minutes" in said) == (calls > before),
             "%s: %r", what, said)
 
@@ -251,6 +253,7 @@ def check_failed_build(place):
                              ("no program", RT_IDLE, "left no")):
         place.rt(text)
         shutil.rmtree(place.root / "target")
+        shutil.rmtree(place.built, ignore_errors=True)
         status, printed, said = place.run("decode")
         require(status != 0 and printed == "", "%s: %d, %r", what, status, printed)
         require(said.count("\n") == 2 and word in said and "decode.log" in said,

@@ -27,7 +27,7 @@ import tlp
 from checks import require
 
 HEADER = ROOT / "host" / "include" / "tollpebble.h"
-SOURCE = ROOT / "crates" / "tlp_c" / "src" / "lib.rt"
+SOURCE = ROOT / "crates" / "tlp_static" / "src" / "lib.rt"
 BUILT = ROOT / "target" / "host"
 STORED = ROOT / "crates" / "tlp_vectors"
 WARNINGS = ("-Wall", "-Wextra", "-Wpedantic", "-Wconversion", "-Wshadow", "-Werror")
@@ -60,7 +60,7 @@ PASSED = {
 
 def exported():
     """The declarations that the exported functions of the source call for."""
-    found = re.findall(r'#\[no_mangle\]\s*pub extern "C" fn (\w+)\(([^)]*)\) -> (\w+)', SOURCE.read_text())
+    found = re.findall(r'#\[unsafe\(no_mangle\)\]\s*pub extern "C" fn (\w+)\(([^)]*)\) -> (\w+)', SOURCE.read_text())
     for name, parameters, result in found:
         require(result == "u32", "%s returns %s", name, result)
         passed = []

@@ -13,7 +13,7 @@ use borrow.Author.Tests.{le-leb}
 use Rattle.bits.specs.Choice.{pick}
 use Rattle.bits.specs.Put.{put}
 use Rattle.bits.proofs.PutLaws.{length-put}
-use Rattle.text.specs.Laid.{fits, laid}
+use Rattle.text.specs.Laid.{fits}
 use Rattle.text.proofs.LaidLaws.{laid-fits}
 use Rattle.text.proofs.Order.{lt-or-le}
 use Rattle.tlp.specs.declared.settings.Settings.{Settings}

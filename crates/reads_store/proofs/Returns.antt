@@ -16,35 +16,6 @@ use Rattle.scans.proofs.MergeSteps.{merge-full, merged-part}
 use Rattle.reads_rules.specs.declared.request.ReadRequest.{ReadRequest}
 use Rattle.reads_store.specs.Stores.{stored}
 
--- what a copy of the first i bytes leaves in a part of i bytes
-copied : (i : ℕ) (ds xs ys : List ℕ) → i ≤ length ds → i ≤ length xs
-    → ys ≡ take (length (take i ds)) (take i ds) ++ drop (length (take i ds)) (take i xs) → ys ≡ take i ds
-copied i ds xs ys h l e =
-    let m : length (take i ds) ≡ i = length-take-le i ds h in
-    let n : length (take i xs) ≡ i = length-take-le i xs l in
-    e ∙ rw (take-length (take i ds), m, drop_of_length-le (take i xs) {i = i} (omega arith)) (append-nil (take i ds))
-
-module _ (n : ℕ) (ds xs ys : List ℕ) where
-  pub front-copied : n ≤ length ds → n ≤ length xs → ys ≡ take (length (take n ds)) (take n ds) ++ drop (length (take n ds)) (take n xs)
-      → ys ++ drop n xs ≡ take n ds ++ drop n xs
-  front-copied h l e = rw (copied n ds xs ys h l e)
-
--- by way of a block bs, in which the first copy left zs
-module _ (n : ℕ) (ds bs zs : List ℕ) (e : zs ≡ take (length (take n ds)) (take n ds) ++ drop (length (take n ds)) (take n bs)) (h : n ≤ length ds) (b : n ≤ length bs) where
-  left : zs ≡ take n ds
-  left = copied n ds bs zs h b e
-
-  left-long : length zs ≡ n
-  left-long = rw left (length-take-le n ds h)
-
-  pub block-holds : n ≤ length (zs ++ drop n bs)
-  block-holds = let z = left-long in rw length-append (omega arith)
-
-  pub front-by-block : (xs ys : List ℕ)
-      → ys ≡ take (length (take n (zs ++ drop n bs))) (take n (zs ++ drop n bs)) ++ drop (length (take n (zs ++ drop n bs))) (take n xs)
-      → n ≤ length xs → ys ++ drop n xs ≡ take n ds ++ drop n xs
-  front-by-block xs ys g l = rw (copied n (zs ++ drop n bs) xs ys block-holds l g, take_at zs (drop n bs) n left-long, left)
-
 -- the lesser of two lengths is one of them
 fits : (m l n : ℕ) → n ≡ min m l → (m ≤ n) ⊎ (l ≤ n)
 fits m l n e = go (leb m l) refl
@@ -63,8 +34,8 @@ module _ (f : ℕ → Bool) (k i : ℕ) (ds xs ys : List ℕ) where
 
   -- these copied
   pub laid-copy : i ≤ length ds → i ≤ length xs → ((j : ℕ) → j < i → f (k + j) ≡ true)
-      → ys ≡ take (length (take i ds)) (take i ds) ++ drop (length (take i ds)) (take i xs) → ys ≡ merged f k (take i ds) (take i xs)
-  laid-copy h l t e = copied i ds xs ys h l e ∙ sym (front-enabled h l t)
+      → ys ≡ take i ds → ys ≡ merged f k (take i ds) (take i xs)
+  laid-copy h l t e = e ∙ sym (front-enabled h l t)
 
   -- these copied, and no others are left
   pub laid-front : (r : Bool) → i ≡ min (length ds) (length xs) → r ≡ true → (r ≡ true → (j : ℕ) → j < i → f (k + j) ≡ true)

@@ -14,8 +14,7 @@ use tlp_write::WriteAnswer;
 
 // Reads a packet. Answers 0 with the packet's record over the front of record, or the number of the refusal with record
 // as it was.
-#[unsafe(no_mangle)]
-pub extern "C" fn tollpebble_read(
+pub fn tollpebble_read(
     mps: u32,
     mrrs: u32,
     rcb: u32,
@@ -37,8 +36,7 @@ pub extern "C" fn tollpebble_read(
 
 // Writes the packet that record describes, with its payload, over the front of out. Answers 0 with the packet's size in
 // size, or the number of the refusal with out and size as they were.
-#[unsafe(no_mangle)]
-pub extern "C" fn tollpebble_write(
+pub fn tollpebble_write(
     mps: u32,
     mrrs: u32,
     rcb: u32,

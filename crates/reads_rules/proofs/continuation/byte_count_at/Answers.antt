@@ -1,0 +1,6 @@
+use Rattle.reads_rules.proofs.ContinuationLaws.{count_of}
+use borrow.Author.Rules.{rules}
+use Rattle.reads_rules.proofs.continuation.byte_count_at.Goals as goal
+
+pub returns : goal.returns
+returns c = search count_of

@@ -1,0 +1,6 @@
+use Rattle.reads_rules.proofs.PieceLaws.{header-case}
+use borrow.Author.Rules.{rules}
+use Rattle.reads_rules.proofs.piece.header_in.Goals as goal
+
+pub returns-in-CompletionData : goal.returns-in-CompletionData
+returns-in-CompletionData c = search header-case

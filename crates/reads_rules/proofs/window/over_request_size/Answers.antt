@@ -1,0 +1,6 @@
+use Rattle.reads_rules.proofs.WindowLaws.{over-size}
+use borrow.Author.Rules.{rules}
+use Rattle.reads_rules.proofs.window.over_request_size.Goals as goal
+
+pub returns : goal.returns
+returns c = search over-size

@@ -1,0 +1,38 @@
+use Prim.Native.Nat.{◌^◌, ◌<◌}
+use native.Mathlib.Omega.{arith}
+use mathlib.Core.Path.{◌≡◌, refl}
+use Rattle.scans.specs.Belows.{any_below}
+use Rattle.reads_slots.specs.Inner.WordScans.{shares_in_word}
+use borrow.Author.Rules.{rules}
+use Rattle.reads_slots.proofs.ScanLaws.{turn-laws}
+use Rattle.reads_slots.proofs.open_tags.word_shares.Goals as goal
+
+pub loop-rest-init : goal.loop-rest-init
+loop-rest-init c = (omega arith, refl)
+
+pub lowest_bit-requires : goal.lowest_bit-requires
+lowest_bit-requires c = search (turn-laws, rules)
+
+pub overflow_add-from : goal.overflow_add-from
+overflow_add-from c = search (turn-laws, rules)
+
+pub read_at-r-requires : goal.read_at-r-requires
+read_at-r-requires c = search (turn-laws, rules)
+
+pub shares_byte-requires : goal.shares_byte-requires
+shares_byte-requires c = search (turn-laws, rules)
+
+pub returns-then-shares_byte : goal.returns-then-shares_byte
+returns-then-shares_byte c = search (turn-laws, rules)
+
+pub without_lowest-rest-requires : goal.without_lowest-rest-requires
+without_lowest-rest-requires c = search (turn-laws, rules)
+
+pub loop-rest-smaller : goal.loop-rest-smaller
+loop-rest-smaller c = search (turn-laws, rules)
+
+pub loop-rest-preserved : goal.loop-rest-preserved
+loop-rest-preserved c = (search (turn-laws, rules), search (turn-laws, rules))
+
+pub returns : goal.returns
+returns c = search (turn-laws, rules)

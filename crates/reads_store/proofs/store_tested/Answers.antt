@@ -1,0 +1,21 @@
+use mathlib.Core.Path.{◌≡◌, refl}
+use Prim.Native.Nat.{◌-◌, ◌≤◌}
+use native.Mathlib.Omega.{arith}
+use lib.ListN.{length, take, length-set}
+use Rattle.byte_enables.specs.Enables.{enabled}
+use Rattle.scans.specs.Merges.{merged}
+use Rattle.scans.proofs.MergeSteps.{merge-steps}
+use borrow.Author.Rules.{rules}
+use Rattle.reads_store.proofs.store_tested.Goals as goal
+
+pub loop-i-init : goal.loop-i-init
+loop-i-init c = (omega arith, refl, search merge-steps)
+
+pub returns-then-part-i : goal.returns-then-part-i
+returns-then-part-i c = search merge-steps
+
+pub loop-i-preserved : goal.loop-i-preserved
+loop-i-preserved c = (omega arith, simp length-set (omega arith), search (merge-steps, rules))
+
+pub returns : goal.returns
+returns c = search merge-steps

@@ -1,0 +1,15 @@
+use mathlib.Core.Path.{◌≡◌, refl}
+use Prim.Native.Nat.{◌-◌, ◌≤◌}
+use native.Mathlib.Omega.{arith}
+use lib.ListN.{length, take, length-set}
+use Rattle.byte_enables.specs.Enables.{enabled}
+use Rattle.scans.specs.Merges.{merged}
+use Rattle.scans.proofs.MergeSteps.{merge-steps}
+use borrow.Author.Rules.{rules}
+use Rattle.reads_store.proofs.store_tested.Given as goal
+
+abbrev pub invariant-loop-i : goal.invariant-loop-i
+invariant-loop-i l = (l.i ≤ length l.payload) × (length l.part ≡ length l.initial.part) × (l.part ≡ merged (enabled l.a) l.k (take l.i l.payload) l.initial.part)
+
+abbrev pub decreases-loop-i : goal.decreases-loop-i
+decreases-loop-i l = length l.payload - l.i

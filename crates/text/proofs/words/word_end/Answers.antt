@@ -1,0 +1,15 @@
+use Rattle.text.proofs.WordLaws.{end-laws}
+use Rattle.std.proofs.Common.{rules}
+use Rattle.text.proofs.words.word_end.Goals as goal
+
+pub loop-i-init : goal.loop-i-init
+loop-i-init c = (search rules, search end-laws)
+
+pub returns-then-line-i-eq32 : goal.returns-then-line-i-eq32
+returns-then-line-i-eq32 c = search end-laws
+
+pub loop-i-preserved : goal.loop-i-preserved
+loop-i-preserved c = (search rules, search end-laws)
+
+pub returns : goal.returns
+returns c = search end-laws

@@ -1,0 +1,6 @@
+use Rattle.tlp_read.proofs.FieldReturns.{request-law}
+use borrow.Author.Rules.{rules}
+use Rattle.tlp_read.proofs.fields.request_at.Goals as goal
+
+pub returns : goal.returns
+returns c = search request-law depth 8

@@ -1,0 +1,9 @@
+use Rattle.tlp_read.proofs.FieldReturns.{trailing-short, trailing-part}
+use borrow.Author.Rules.{rules}
+use Rattle.tlp_read.proofs.fields.trailing_word.Goals as goal
+
+pub returns-then-bytes-lt4 : goal.returns-then-bytes-lt4
+returns-then-bytes-lt4 c = search trailing-short
+
+pub returns : goal.returns
+returns c = search trailing-part

@@ -1,0 +1,6 @@
+use Rattle.tlp_read.proofs.ReadReturns.{plain-law}
+use borrow.Author.Rules.{rules}
+use Rattle.tlp_read.proofs.rows.not_plain_at.Goals as goal
+
+pub returns : goal.returns
+returns c = search plain-law depth 8
