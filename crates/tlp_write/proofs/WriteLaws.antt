@@ -2,7 +2,7 @@
 use Prim.Native.Nat.{ℕ, zero, suc, ◌+◌, ◌*◌, ◌^◌, ◌≤◌, ◌<◌}
 use mathlib.Core.Path.{◌≡◌, refl, sym, ap, ◌∙◌}
 use mathlib.Core.Bool.{Bool, true, false, not}
-use mathlib.Core.List.{List, [], ◌∷◌, ◌++◌, append_assoc}
+use mathlib.Core.List.{List, [], ◌++◌, append_assoc}
 use native.Mathlib.Omega.{arith}
 use lib.Dec.{eqb, ltb}
 use lib.ListN.{length, take, length-append}
@@ -14,7 +14,7 @@ use Rattle.bits.specs.Word.{bytes}
 use Rattle.bits.specs.Put.{put, over_front}
 use Rattle.bits.proofs.PutLaws.{length-put, put_front, put_next}
 use Rattle.byte_enables.specs.declared.Access.{Access}
-use Rattle.tlp.specs.Rows.{Row, row, first}
+use Rattle.tlp.specs.Rows.{first}
 use Rattle.tlp.proofs.RowLaws.{some_of, none_of}
 use Rattle.tlp.specs.PacketTypes.{header_dw, family_of}
 use Rattle.tlp.proofs.Bounds.{data-le}

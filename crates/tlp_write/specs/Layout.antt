@@ -1,13 +1,12 @@
 -- Document 01, the header layout: the bytes that a packet is written as. Reserved bits are zero. A reader must believe
 -- bytes_of and size_of, with all that they are built from here.
-use Rattle.std.specs.Prelude.{ℕ, ◌+◌, ◌*◌, ◌/◌, ◌%◌, ◌^◌, Bool, true, false, List, [], ◌∷◌, ◌++◌, ltb}
+use Rattle.std.specs.Prelude.{ℕ, ◌+◌, ◌*◌, ◌^◌, List, [], ◌∷◌, ◌++◌, ltb}
 use Rattle.bits.specs.Choice.{pick, flag}
 use Rattle.bits.specs.Field.{field, low}
 use Rattle.bits.specs.Word.{bytes}
 use Rattle.tlp.specs.PacketTypes.{first_byte, header_dw}
 use Rattle.tlp.specs.Packets.{address_of, id_of, type_of, access_of}
 use Rattle.tlp.specs.Sizes.{data_bytes, digest_bytes}
-use Rattle.tlp.specs.declared.packet.Implicit.{Implicit}
 use Rattle.tlp.specs.declared.packet.Implicit.TheVariants.{Root, Broadcast, Local, Gathered}
 use Rattle.tlp.specs.declared.packet.Route.{Route}
 use Rattle.tlp.specs.declared.packet.Route.TheVariants.{Address, Id, Implicit as Implied}

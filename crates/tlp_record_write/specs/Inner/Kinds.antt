@@ -1,6 +1,6 @@
 -- For the contracts of kinds.rt: what is looked at in the records of some kinds only (docs/RECORD.md): what a kind does
 -- not have is 0, what it has is within its bounds.
-use Rattle.std.specs.Prelude.{ℕ, ◌%◌, ◌/◌, ◌^◌, Bool, ◌&&◌, ◌||◌, not, List, eqb, leb}
+use Rattle.std.specs.Prelude.{ℕ, ◌%◌, ◌^◌, Bool, ◌&&◌, ◌||◌, not, List, eqb, leb}
 use Rattle.bits.specs.Choice.{pick}
 use Rattle.bits.specs.Field.{field}
 use Rattle.bits.specs.Word.{byte, word}

@@ -1,0 +1,11 @@
+use Rattle.tlp_record_write.proofs.Chains.{chains}
+use Rattle.tlp_record_write.proofs.kinds.not_io_address.Goals as goal
+
+pub returns-then-route-ne0 : goal.returns-then-route-ne0
+returns-then-route-ne0 c = search chains depth 9
+
+pub returns-then-a-ge4294967296 : goal.returns-then-a-ge4294967296
+returns-then-a-ge4294967296 c = search chains depth 9
+
+pub returns : goal.returns
+returns c = search chains depth 9
