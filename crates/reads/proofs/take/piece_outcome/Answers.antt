@@ -1,0 +1,6 @@
+use Rattle.reads.proofs.TakeLaws.{piece-outcome, piece-laid}
+use borrow.Author.Rules.{rules}
+use Rattle.reads.proofs.take.piece_outcome.Goals as goal
+
+pub returns : goal.returns
+returns c = record { value = search piece-outcome; store_after = search piece-laid }
