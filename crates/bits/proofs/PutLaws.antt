@@ -14,9 +14,9 @@ unfolding put
 length-put at src out h = simp (length-append, length-drop, length-take) (omega arith)
 
 -- a copy into the part of out from index at on, which is as long as what is copied
-pub copied_part : (at : ℕ) (src out last : List ℕ) → last ≡ src → put_mid at (at + length src - at) out last ≡ put at src out
+pub copied_part : (at n : ℕ) (src out last : List ℕ) → n ≡ length src → last ≡ src → put_mid at (at + n - at) out last ≡ put at src out
 unfolding put
-copied_part at src out last e = rw e (ap (λ l. take at out ++ (src ++ l)) (Post-is at (at + length src) out (omega arith)))
+copied_part at n src out last l e = rw (l, e) (ap (λ r. take at out ++ (src ++ r)) (Post-is at (at + length src) out (omega arith)))
 
 pub put-nothing : (at : ℕ) (out : List ℕ) → out ≡ put at [] out
 unfolding put

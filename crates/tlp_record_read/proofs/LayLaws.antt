@@ -1,14 +1,14 @@
 -- One law for each return of the functions that lay a record, in the words of the calls before it.
-use Prim.Native.Nat.{ℕ, zero, suc, ◌+◌, ◌-◌, ◌*◌, ◌/◌, ◌%◌, ◌^◌, ◌≤◌, ◌<◌}
+use Prim.Native.Nat.{ℕ, zero, suc, ◌+◌, ◌-◌, ◌*◌, ◌/◌, ◌%◌, ◌≤◌, ◌<◌}
 use native.Mathlib.Omega.{arith}
 use native.Mathlib.Nat.{zero-add}
 use mathlib.Core.Path.{◌≡◌, refl, sym, ap, ◌∙◌}
-use mathlib.Core.Bool.{Bool, true, false, true≢false, ◌&&◌}
+use mathlib.Core.Bool.{Bool, true, false}
 use mathlib.Core.List.{List, [], ◌∷◌, ◌++◌, append_assoc}
-use lib.Dec.{eqb, ltb}
+use lib.Dec.{eqb}
 use lib.ListN.{length, get_or, take, drop, set, length-append}
 use lib.Seq.{sets, sets-eq, length-sets}
-use borrow.Author.Tests.{eq-eqb, ne_eqb, eqb-true}
+use borrow.Author.Tests.{ne_eqb, eqb-true}
 use Rattle.bits.specs.Choice.{pick, flag}
 use Rattle.bits.specs.Word.{byte, word, bytes}
 use Rattle.bits.specs.Put.{put, over_front}
@@ -31,7 +31,7 @@ use Rattle.tlp_read.specs.Fields.{completer_at, status_at, byte_count_modified_a
 use Rattle.tlp_read.specs.Fields.{request_at, config_at, message_at, completion_at, implicit_at, message_route_at, route_at, kind_at, packet_at}
 use Rattle.tlp_read.specs.Inner.Rows.{family_at, Listed, address_read}
 use Rattle.tlp_read.proofs.ReadReturns.{address-wide, address-narrow}
-use Rattle.bits.proofs.PutLaws.{copied, put_front, put_next}
+use Rattle.bits.proofs.PutLaws.{copied_part, put_front, put_next}
 use Rattle.tlp_record.specs.Record.{fields_of, route_case, route_value, sizes_part, record_of}
 use Rattle.tlp_record_read.specs.Inner.Lay.{front_read, data_flag, kind_read, length_given, message_front, request_part, counted_part, registers_part, status_part, record_read, record_laid}
 
@@ -54,10 +54,9 @@ stored at a b c d e f g h out l =
     let e7 : at + 7 ≡ suc (suc (suc (suc (suc (suc (suc at)))))) = omega arith in
     rw (e1, e2, e3, e4, e5, e6, e7) (sym (put-sets at (a ∷ b ∷ c ∷ d ∷ e ∷ f ∷ g ∷ h ∷ []) out l))
 
--- a number's four bytes, and those of another after them
-pub number-copied : (at n : ℕ) (src out last : List ℕ) → src ≡ bytes 4 n → last ≡ take (length src) src ++ drop (length src) (take (length out - at) (drop at out))
-    → put_mid at (length out - at) out last ≡ put at (bytes 4 n) out
-number-copied at n src out last e q = copied at src out last q ∙ ap (λ (l : List ℕ). put at l out) e
+-- a number's four bytes
+pub number-copied : (at n : ℕ) (src out last : List ℕ) → src ≡ bytes 4 n → last ≡ src → put_mid at (at + 4 - at) out last ≡ put at (bytes 4 n) out
+number-copied at n src out last e q = copied_part at 4 (bytes 4 n) out last refl (q ∙ e)
 
 pub sizes-laid : (d n : ℕ) (z r t : List ℕ) → 48 ≤ length z → r ≡ put 24 (bytes 4 d) z → t ≡ put 28 (bytes 4 n) r → t ≡ put 24 (sizes_part d n) z
 sizes-laid d n z r t l er et =
