@@ -1,7 +1,6 @@
 use Prim.Native.Nat.{◌≤◌}
 use mathlib.Core.Path.{◌≡◌}
 use lib.ListN.{length}
-use borrow.Author.Rules.{rules}
 use Rattle.calls.specs.Inner.Sizes.{line_most}
 use Rattle.calls.proofs.main.Given as goal
 

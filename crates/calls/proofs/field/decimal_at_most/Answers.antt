@@ -1,5 +1,4 @@
 use Rattle.text.proofs.Bounds.{decimal-after-le}
-use borrow.Author.Rules.{rules}
 use Rattle.calls.proofs.field.decimal_at_most.Goals as goal
 
 pub returns : goal.returns

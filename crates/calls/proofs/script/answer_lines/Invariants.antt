@@ -1,7 +1,6 @@
 -- The index after the last line is one behind the text where that line has no newline.
 use Prim.Native.Nat.{◌+◌, ◌-◌, ◌≤◌}
 use lib.ListN.{length}
-use borrow.Author.Rules.{rules}
 use Rattle.calls.proofs.script.answer_lines.Given as goal
 
 abbrev pub invariant-loop-at : goal.invariant-loop-at

@@ -1,6 +1,5 @@
 use Prim.Native.Nat.{◌≤◌}
 use lib.ListN.{length}
-use borrow.Author.Rules.{rules}
 use Rattle.calls.proofs.script.lines_end.Given as goal
 
 abbrev pub invariant-loop-end : goal.invariant-loop-end

@@ -1,6 +1,5 @@
 use Rattle.calls_printed.proofs.Laws.{checksum-next, checksum-done}
-use Rattle.std.proofs.Common.{◌≡◌, ◌-◌, ◌≤◌, length, drop, rules}
-use Rattle.calls_printed.specs.Checksum.{checksum_from, checksum}
+use Rattle.std.proofs.Common.{rules}
 use Rattle.calls_printed.proofs.checksum.checksum.Goals as goal
 
 pub loop-i-preserved : goal.loop-i-preserved

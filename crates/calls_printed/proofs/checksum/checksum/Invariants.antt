@@ -1,6 +1,5 @@
 -- What is still to be put in gives the checksum of all.
-use Rattle.calls_printed.proofs.Laws.{checksum-next, checksum-done}
-use Rattle.std.proofs.Common.{◌≡◌, ◌-◌, ◌≤◌, length, drop, rules}
+use Rattle.std.proofs.Common.{◌≡◌, ◌-◌, ◌≤◌, length, drop}
 use Rattle.calls_printed.specs.Checksum.{checksum_from, checksum}
 use Rattle.calls_printed.proofs.checksum.checksum.Given as goal
 

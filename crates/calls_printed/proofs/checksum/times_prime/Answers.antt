@@ -1,4 +1,3 @@
-use Rattle.std.proofs.Common.{rules}
 use Rattle.calls_printed.proofs.Laws.{prime-parts}
 use Rattle.calls_printed.proofs.checksum.times_prime.Goals as goal
 

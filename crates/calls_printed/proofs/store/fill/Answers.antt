@@ -1,5 +1,5 @@
 use Rattle.calls_printed.proofs.Laws.{fill-next, fill_done}
-use Rattle.std.proofs.Common.{◌≡◌, ◌-◌, ◌≤◌, ◌++◌, length, drop, replicate, arith, length-set, rules}
+use Rattle.std.proofs.Common.{arith, rules}
 use Rattle.calls_printed.proofs.store.fill.Goals as goal
 
 pub loop-i-smaller : goal.loop-i-smaller

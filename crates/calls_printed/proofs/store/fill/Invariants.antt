@@ -1,6 +1,5 @@
 -- The first i bytes are b, the others as they were.
-use Rattle.calls_printed.proofs.Laws.{fill-next, fill_done}
-use Rattle.std.proofs.Common.{◌≡◌, ◌-◌, ◌≤◌, ◌++◌, length, drop, replicate, arith, length-set, rules}
+use Rattle.std.proofs.Common.{◌≡◌, ◌-◌, ◌≤◌, ◌++◌, length, drop, replicate}
 use Rattle.calls_printed.proofs.store.fill.Given as goal
 
 abbrev pub invariant-loop-i : goal.invariant-loop-i

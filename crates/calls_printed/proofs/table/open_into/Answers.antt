@@ -1,5 +1,4 @@
 use Rattle.calls_printed.proofs.Laws.{handed-back}
-use Rattle.std.proofs.Common.{rules}
 use Rattle.calls_printed.proofs.table.open_into.Goals as goal
 
 pub returns : goal.returns

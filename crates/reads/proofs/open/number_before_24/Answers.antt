@@ -1,6 +1,5 @@
 use Rattle.tlp.proofs.RowLaws.{rows}
 use Rattle.reads.proofs.OpenLaws.{before-24-laws}
-use borrow.Author.Rules.{rules}
 use Rattle.reads.proofs.open.number_before_24.Goals as goal
 
 pub returns-then-not-valid : goal.returns-then-not-valid

@@ -1,5 +1,4 @@
 use Rattle.reads.proofs.OpenLaws.{header-answers, header-outs, header-laws, when-none}
-use borrow.Author.Rules.{rules}
 use Rattle.reads.proofs.open.open_answer.Goals as goal
 
 pub returns-then-n-ne0 : goal.returns-then-n-ne0

@@ -1,5 +1,4 @@
 use Rattle.reads.proofs.OpenLaws.{open-laws, open-left, tag_fits}
-use borrow.Author.Rules.{rules}
 use Rattle.reads.proofs.open.open_lent.Goals as goal
 
 pub open_answer-answer-requires : goal.open_answer-answer-requires

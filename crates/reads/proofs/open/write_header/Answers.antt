@@ -1,5 +1,4 @@
 use Rattle.reads.proofs.OpenLaws.{header-laws}
-use borrow.Author.Rules.{rules}
 use Rattle.reads.proofs.open.write_header.Goals as goal
 
 pub returns : goal.returns

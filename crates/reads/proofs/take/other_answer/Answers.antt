@@ -1,5 +1,4 @@
 use Rattle.reads.proofs.TakeLaws.{other-laws}
-use borrow.Author.Rules.{rules}
 use Rattle.reads.proofs.take.other_answer.Goals as goal
 
 pub returns-then-n-ne0 : goal.returns-then-n-ne0

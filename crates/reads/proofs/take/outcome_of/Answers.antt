@@ -1,5 +1,4 @@
 use Rattle.reads.proofs.TakeLaws.{outcome-seen, laid-seen}
-use borrow.Author.Rules.{rules}
 use Rattle.reads.proofs.take.outcome_of.Goals as goal
 
 pub returns : goal.returns

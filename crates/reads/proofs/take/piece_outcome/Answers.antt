@@ -1,5 +1,4 @@
 use Rattle.reads.proofs.TakeLaws.{piece-outcome, piece-laid}
-use borrow.Author.Rules.{rules}
 use Rattle.reads.proofs.take.piece_outcome.Goals as goal
 
 pub returns : goal.returns

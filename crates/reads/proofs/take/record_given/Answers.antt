@@ -1,5 +1,4 @@
 use Rattle.reads.proofs.TakeLaws.{given-more, given-case, fits-when}
-use borrow.Author.Rules.{rules}
 use Rattle.reads.proofs.take.record_given.Goals as goal
 
 pub advance-requires : goal.advance-requires

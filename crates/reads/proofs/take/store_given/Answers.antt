@@ -1,5 +1,4 @@
 use Rattle.reads.proofs.TakeLaws.{store-case}
-use borrow.Author.Rules.{rules}
 use Rattle.reads.proofs.take.store_given.Goals as goal
 
 pub returns-in-More : goal.returns-in-More

@@ -1,5 +1,4 @@
 use Rattle.reads.proofs.TakeLaws.{take-laws, take_left, more-fits-in}
-use borrow.Author.Rules.{rules}
 use Rattle.reads.proofs.take.take_lent.Goals as goal
 
 pub returns-then-not-takes : goal.returns-then-not-takes

@@ -1,5 +1,4 @@
 use Rattle.reads.proofs.TakeLaws.{outcome-laws, Laid-laws}
-use borrow.Author.Rules.{rules}
 use Rattle.reads.proofs.take.take_outcome.Goals as goal
 
 pub returns-then-not-valid : goal.returns-then-not-valid

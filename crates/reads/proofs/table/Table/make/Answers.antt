@@ -1,6 +1,5 @@
 use Rattle.reads.proofs.TableLaws.{make-laws}
 use Rattle.reads.specs.Tables.{new_table}
-use borrow.Author.Rules.{rules}
 use Rattle.reads.proofs.table.Table.make.Goals as goal
 
 pub returns-then-settings_listed : goal.returns-then-settings_listed
