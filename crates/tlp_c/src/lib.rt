@@ -14,13 +14,7 @@ use tlp_write::WriteAnswer;
 
 // Reads a packet. Answers 0 with the packet's record over the front of record, or the number of the refusal with record
 // as it was.
-pub fn tollpebble_read(
-    mps: u32,
-    mrrs: u32,
-    rcb: u32,
-    packet: &[u8],
-    record: &mut [u8],
-) -> u32
+pub fn tollpebble_read(mps: u32, mrrs: u32, rcb: u32, packet: &[u8], record: &mut [u8]) -> u32
     ensures value { result
         ≡ read_number (read_packet (settings_of mps mrrs rcb) packet.now) (length «record».old) }
     ensures record_after { «record».new
