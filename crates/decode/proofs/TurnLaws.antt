@@ -150,8 +150,6 @@ block-moved buf last kept n room same few =
     let held : n ≤ length buf - kept = omega (arith, size, same, few) in
     rw (to_z_pos w64 {n = n} (omega (arith, held, room))) held
 
-pub ruleset block-laws = (filled-front, block-moved)
-
 -- ---- finish
 
 pub prints-end : (run : Run) (buf rest text : List ℕ) (after : Run) → rest ≡ part buf 0 run.kept → Reached (stage_in run buf) → after ≡ ended_run run → text ≡ end_text run rest → Prints after text
