@@ -10,13 +10,13 @@ ghost use Rattle.decode.specs.Inner.Sizes.{input_room, output_room, lines_most, 
 use crate::run::{Run, advanced, ended, stopped};
 use bits::choice::lesser;
 use capture_blocks::{BlockAnswer, decode_block, decode_end, put_totals_of};
-use std::io::Read;
+use std::io::{Read, Write};
 use text::buffer::move_to_front;
 use text::words::part;
 
-// Says on standard error what failed.
-fn say_failed(rt: &impl Eprint, what: &str) {
-    let _ = eprintln!(rt; "{what} failed");
+// Says on standard error what failed, and why.
+fn say_failed(rt: &impl Eprint, what: &str, why: std::io::Error) {
+    let _ = eprintln!(rt; "{what}: {why}");
 }
 
 // Reads once, behind the kept bytes, and says so where that fails: it then answers -1.
@@ -33,8 +33,8 @@ pub(crate) fn read_block(
 {
     match input.read(&mut buf[kept..]) {
         Ok(n) => n as isize,
-        Err(_) => {
-            say_failed(rt, "read");
+        Err(why) => {
+            say_failed(rt, "read", why);
             -1
         }
     }
@@ -106,15 +106,17 @@ pub(crate) fn lay_read(run: Run, answered: isize, buf: &mut [u8], out: &mut [u8]
 }
 
 // Writes what was laid, and says so where that fails; gives the run to go on with.
-pub(crate) fn print(rt: &impl Eprint, laid: Laid, out: &[u8]) -> Run
+pub(crate) fn print(rt: &(impl Print + Eprint), laid: Laid, out: &[u8]) -> Run
     requires { Prints laid.run (part out.now 0 laid.written) }
     ensures { (result ≡ laid.run) ⊎ (result ≡ stopped_run) }
 {
-    if !io::write_all(1, part(out, 0, laid.written)) {
-        say_failed(rt, "write");
-        return stopped();
+    match std::io::writer(rt).write_all(part(out, 0, laid.written)) {
+        Ok(()) => laid.run,
+        Err(why) => {
+            say_failed(rt, "write", why);
+            stopped()
+        }
     }
-    laid.run
 }
 
 // At the end of the input: lays what the kept bytes give, and the totals.
@@ -142,7 +144,7 @@ pub(crate) fn lay_end(run: Run, rest: &[u8], out: &mut [u8]) -> Laid
 }
 
 // Prints what the kept bytes give at the end of the input, and the totals.
-pub(crate) fn finish(rt: &impl Eprint, run: Run, buf: &[u8], out: &mut [u8])
+pub(crate) fn finish(rt: &(impl Print + Eprint), run: Run, buf: &[u8], out: &mut [u8])
     requires out_len { length out.old ≡ output_room }
     requires counted { Counted lines_most run }
     requires reached { Reached (stage_in run buf.now) }
