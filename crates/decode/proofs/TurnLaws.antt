@@ -12,7 +12,7 @@ use lib.ListN.{length, take, drop, length-take, length-drop}
 use lib.Seq.{take-add, take_at, length-take-le}
 use mir.Syntax.{w64}
 use mir.Val.{SFits, of_z, to_z}
-use mir.Facts.{to_z-of_z}
+use mir.Facts.{to_z-of_z, to_z_pos}
 use borrow.Author.Tests.{ltb-true}
 use borrow.Rule.Slice.PartMut.{post_of, put_mid}
 use Rattle.bits.specs.Choice.{pick}
@@ -143,11 +143,12 @@ moved-held n most z e few m =
     let m1 : Moved most z = subst (λ (k : ℕ). Moved k z) e m in
     rw (to_z-of_z (moved-fits most z few m1)) m1
 
-pub block-moved : (buf : List ℕ) (kept : ℕ) (z : ℤ) → length buf ≡ input_room → Moved (length (take (length buf - kept) (drop kept buf))) z → Moved (length buf - kept) (to_z w64 (of_z w64 z))
-block-moved buf kept z room m =
-    moved-held (length (take (length buf - kept) (drop kept buf))) (length buf - kept) z (simp (length-take, length-drop) (omega arith)) (omega (arith, room)) m
-
-pub ruleset block-laws = (filled-front, block-moved)
+-- what read moved: no more than there is room for behind the kept bytes
+pub block-moved : (buf last : List ℕ) (kept n : ℕ) → length buf ≡ input_room → length last ≡ length (take (length buf - kept) (drop kept buf)) → n ≤ length last → Moved (length buf - kept) (to_z w64 n)
+block-moved buf last kept n room same few =
+    let size : length (take (length buf - kept) (drop kept buf)) ≤ length buf - kept = simp (length-take, length-drop) (omega arith) in
+    let held : n ≤ length buf - kept = omega (arith, size, same, few) in
+    rw (to_z_pos w64 {n = n} (omega (arith, held, room))) held
 
 -- ---- finish
 
@@ -173,10 +174,10 @@ module _ (block : List ℕ) where
   one-more-by : (first : List ℕ) (blocks : List (List ℕ)) (stage : Stage) (more : Bool) → stage.run.more ≡ more
       → ((stage_after (next_stage stage first) blocks).run.more ≡ true → stage_after (next_stage stage first) (blocks ++ (block ∷ [])) ≡ next_stage (stage_after (next_stage stage first) blocks) block)
       → (stage_after stage (first ∷ blocks)).run.more ≡ true → stage_after stage (first ∷ (blocks ++ (block ∷ []))) ≡ next_stage (stage_after stage (first ∷ blocks)) block
-  one-more-by first blocks stage true e behind m =
+  one-more-by first blocks stage true e later m =
       let same = stage-goes-on stage first blocks e in
-      stage-goes-on stage first (blocks ++ (block ∷ [])) e ∙ behind (sym (ap (λ (x : Stage). x.run.more) same) ∙ m) ∙ sym (ap (λ (x : Stage). next_stage x block) same)
-  one-more-by first blocks stage false e behind m = absurd (false≢true (sym (stage-stays stage first blocks e) ∙ m))
+      stage-goes-on stage first (blocks ++ (block ∷ [])) e ∙ later (sym (ap (λ (x : Stage). x.run.more) same) ∙ m) ∙ sym (ap (λ (x : Stage). next_stage x block) same)
+  one-more-by first blocks stage false e later m = absurd (false≢true (sym (stage-stays stage first blocks e) ∙ m))
 
   -- one block more
   after-one-more : (blocks : List (List ℕ)) (stage : Stage) → (stage_after stage blocks).run.more ≡ true → stage_after stage (blocks ++ (block ∷ [])) ≡ next_stage (stage_after stage blocks) block
@@ -185,15 +186,15 @@ module _ (block : List ℕ) where
   after-one-more (first ∷ blocks) stage m = one-more-by first blocks stage stage.run.more refl (after-one-more blocks (next_stage stage first)) m
 
   read_by : (blocks : List (List ℕ)) (stage : Stage) (z : ℤ) → stage ≡ stage_after first_stage blocks → stage.run.more ≡ true → Reached (turn_stage stage block z)
-  read_by blocks stage (negsuc n) e m = stopped refl
-  read_by blocks stage (pos zero) e m = done blocks (ap ended_stage e)
-  read_by blocks stage (pos (suc n)) e m =
+  read_by blocks from (negsuc n) e m = stopped refl
+  read_by blocks from (pos zero) e m = done blocks (ap ended_stage e)
+  read_by blocks from (pos (suc n)) e m =
       reading (blocks ++ (block ∷ [])) (ap (λ (x : Stage). next_stage x block) e ∙ sym (after-one-more blocks first_stage (sym (ap (λ (x : Stage). x.run.more) e) ∙ m)))
 
   read-reached : (stage : Stage) (z : ℤ) → Reached stage → stage.run.more ≡ true → Reached (turn_stage stage block z)
-  read-reached stage z (reading blocks e) m = read_by blocks stage z e m
-  read-reached stage z (done blocks e) m = absurd (false≢true (sym (ap (λ (x : Stage). x.run.more) e) ∙ m))
-  read-reached stage z (stopped e) m = absurd (false≢true (sym (ap (λ (x : Stage). x.run.more) e) ∙ m))
+  read-reached from z (reading blocks e) m = read_by blocks from z e m
+  read-reached from z (done blocks e) m = absurd (false≢true (sym (ap (λ (x : Stage). x.run.more) e) ∙ m))
+  read-reached from z (stopped e) m = absurd (false≢true (sym (ap (λ (x : Stage). x.run.more) e) ∙ m))
 
 pub kept-within : (most : ℕ) (run : Run) (buf : List ℕ) → Counted most run → length buf ≡ input_room → run.kept ≤ length buf
 kept-within most run buf g room = omega (arith, room, g.kept)

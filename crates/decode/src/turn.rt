@@ -20,7 +20,12 @@ fn say_failed(rt: &impl Eprint, what: &str) {
 }
 
 // Reads once, behind the kept bytes, and says so where that fails: it then answers -1.
-pub(crate) fn read_block(rt: &impl Eprint, input: &mut impl Read, kept: usize, buf: &mut [u8]) -> isize
+pub(crate) fn read_block(
+    rt: &impl Eprint,
+    input: &mut impl Read,
+    kept: usize,
+    buf: &mut [u8],
+) -> isize
     requires kept_in_bounds { kept ≤ length buf.old }
     requires buf_len { length buf.old ≡ input_room }
     ensures answer { Moved (length buf.old - kept) result }

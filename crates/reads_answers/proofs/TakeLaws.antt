@@ -4,7 +4,6 @@ use mathlib.Core.Path.{◌≡◌, refl, sym, ◌∙◌}
 use mathlib.Core.Bool.{Bool, true, false, not, ◌&&◌, and-eq-true_iff}
 use native.Mathlib.Omega.{arith}
 use lib.Dec.{eqb, leb}
-use lib.ListN.{length}
 use borrow.Author.Tests.{eq-eqb, ne_eqb, leb-true, not-true, not-false}
 use Rattle.bits.specs.Choice.{pick}
 use Rattle.tlp.specs.Rows.{first, NoneHold}
@@ -18,7 +17,6 @@ use Rattle.reads_rules.specs.Pieces.{is_completion, piece_of}
 use Rattle.reads_rules.specs.Continuations.{cut_allowed, legal, succeeds, status_bad, differs, reported}
 use Rattle.reads_rules.specs.Validity.{owed_of}
 use Rattle.reads_rules.specs.declared.state.State.{State}
-use Rattle.reads_rules.specs.declared.state.State.TheVariants.{Open}
 use Rattle.reads_rules.specs.States.{is_open}
 use Rattle.reads_answers.specs.declared.TakeAnswer.{TakeAnswer}
 use Rattle.reads_answers.specs.declared.TakeAnswer.TheVariants.{More, Done, Failed, Poisoned, Refused}

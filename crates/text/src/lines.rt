@@ -1,10 +1,12 @@
 // Where a line ends.
-ghost use Rattle.std.specs.Prelude.{◌≤◌, length};
+ghost use Rattle.std.specs.Prelude.{◌≡◌, ◌≢◌, ℕ, ◌≤◌, ◌<◌, length, slice_index};
 
 // The index of the first newline from index at on, or the end.
 pub fn line_end(text: &[u8], at: usize) -> usize
     ensures within { result ≤ length text.now }
     ensures behind { at ≤ length text.now → at ≤ result }
+    ensures before { (k : ℕ) → at ≤ k → k < result → slice_index text.now k ≢ 10 }
+    ensures newline { result < length text.now → slice_index text.now result ≡ 10 }
 {
     for i in at..text.len() {
         if text[i] == b'\n' {

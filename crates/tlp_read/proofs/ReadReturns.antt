@@ -1,22 +1,21 @@
 -- One law for each return of the rows and of `read`, in the words of the calls before it.
-use Prim.Native.Nat.{ℕ, zero, suc, ◌+◌, ◌-◌, ◌*◌, ◌/◌, ◌%◌, ◌^◌, ◌≤◌, ◌<◌}
+use Prim.Native.Nat.{ℕ, zero, suc, ◌+◌, ◌*◌, ◌/◌, ◌%◌, ◌≤◌, ◌<◌}
 use native.Mathlib.Nat.{zero-add}
 use native.Mathlib.Omega.{arith}
 use mathlib.Core.Path.{◌≡◌, refl, sym, ap, ◌∙◌}
 use mathlib.Core.Bool.{Bool, true, false, ◌||◌, ◌&&◌, not}
-use mathlib.Core.List.{List, [], ◌∷◌, ◌++◌}
+use mathlib.Core.List.{List, [], ◌∷◌}
 use lib.Dec.{eqb, ltb}
 use lib.ListN.{length}
-use borrow.Author.Tests.{eqb-true, eq-eqb, ne_eqb, lt-ltb, le-ltb}
-use Rattle.bits.specs.Choice.{pick}
+use borrow.Author.Tests.{eqb-true, eq-eqb, lt-ltb, le-ltb}
 use Rattle.bits.specs.Word.{byte, word}
 use Rattle.byte_enables.specs.Enables.{enables_allowed}
 use Rattle.byte_enables.specs.declared.Access.{Access}
-use Rattle.tlp.specs.Rows.{Row, row, first}
+use Rattle.tlp.specs.Rows.{row, first}
 use Rattle.tlp.specs.Settings.{settings_listed}
 use Rattle.tlp.specs.PacketTypes.{type_at, packet_type_at, header_dw, has_data, family_of, is_unlisted, is_io_or_config}
 use Rattle.tlp.specs.Packets.{address_of, access_of}
-use Rattle.tlp.specs.Sizes.{length_at, digest_at, data_bytes, digest_bytes, bytes_called, size_rows}
+use Rattle.tlp.specs.Sizes.{length_at, digest_at, data_bytes, digest_bytes, bytes_called}
 use Rattle.tlp.specs.Contents.{not_plain, plain_bad, enables_bad, page_bad, crosses_page}
 use Rattle.tlp.specs.declared.settings.Settings.{Settings}
 use Rattle.tlp.specs.declared.packet.Packet.{Packet}
@@ -27,11 +26,10 @@ use Rattle.tlp.specs.declared.packet_type.Family.TheVariants.{Memory, Io, Config
 use Rattle.tlp.proofs.FmtLaws.{fmt-law}
 use Rattle.tlp.proofs.FamilyLaws.{memory-types, io-types, config-types}
 use Rattle.tlp.proofs.RowLaws.{here, next, here-not, next-not, here_lt, next-lt, here-ne-call, next-ne-call}
-use Rattle.tlp_read.specs.declared.ReadAnswer.{ReadAnswer}
 use Rattle.tlp_read.specs.declared.ReadAnswer.TheVariants.{Accepted, Refused}
 use Rattle.tlp_read.specs.Fields.{traffic_class_at, low_attributes_at, attributes_at, hint_at, address_type_at, first_enables_at, last_enables_at, address_at, routing_at}
 use Rattle.tlp_read.specs.Fields.{request_at, config_at, route_at, kind_at, packet_at}
-use Rattle.tlp_read.specs.Inner.Rows.{Listed, access_read, address_read, not_plain_at, last_given, judged_rows, header_rows}
+use Rattle.tlp_read.specs.Inner.Rows.{Listed, access_read, address_read, not_plain_at, last_given, header_rows}
 use Rattle.tlp_read.specs.Read.{hint_or_address_type_set, routing_bad, form_bad, judge_rows, read_rows, answer_of, read_packet}
 
 -- ---- sizes

@@ -1,6 +1,6 @@
 -- Document 01, "Header layout": where each field of a header stands, then what the bytes of a packet of type t hold. A
 -- place past the end reads as 0. All to be believed.
-use Rattle.std.specs.Prelude.{ℕ, ◌+◌, ◌-◌, ◌*◌, ◌/◌, ◌%◌, ◌^◌, Bool, true, false, List, eqb, length, drop}
+use Rattle.std.specs.Prelude.{ℕ, ◌+◌, ◌-◌, ◌*◌, ◌/◌, Bool, List, eqb, length, drop}
 use Rattle.bits.specs.Choice.{pick}
 use Rattle.bits.specs.Field.{field, low, bit}
 use Rattle.bits.specs.Word.{byte, word}

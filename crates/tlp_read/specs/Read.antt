@@ -1,5 +1,5 @@
 -- Document 01, "Numbers for the packet desk, in order of checking", and what reading answers. All to be believed.
-use Rattle.std.specs.Prelude.{ℕ, zero, suc, ◌+◌, ◌-◌, ◌*◌, ◌/◌, ◌%◌, ◌^◌, Bool, true, false, ◌||◌, ◌&&◌, not, List, [], ◌∷◌, ◌++◌, eqb, ltb, length, take, drop}
+use Rattle.std.specs.Prelude.{ℕ, zero, suc, ◌*◌, Bool, ◌||◌, ◌&&◌, not, List, [], ◌∷◌, ◌++◌, eqb, ltb, length, take, drop}
 use Rattle.bits.specs.Word.{word}
 use Rattle.tlp.specs.Rows.{Row, row, first}
 use Rattle.tlp.specs.Settings.{settings_listed}

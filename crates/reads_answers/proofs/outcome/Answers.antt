@@ -1,5 +1,4 @@
 use Rattle.reads_answers.proofs.TakeLaws.{outcome-laws}
-use borrow.Author.Rules.{rules}
 use Rattle.reads_answers.proofs.outcome.Goals as goal
 
 pub returns-then-not-succeeds : goal.returns-then-not-succeeds

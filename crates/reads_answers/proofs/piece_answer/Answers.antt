@@ -1,5 +1,4 @@
 use Rattle.reads_answers.proofs.TakeLaws.{answer-laws}
-use borrow.Author.Rules.{rules}
 use Rattle.reads_answers.proofs.piece_answer.Goals as goal
 
 pub returns-then-n-ne0 : goal.returns-then-n-ne0

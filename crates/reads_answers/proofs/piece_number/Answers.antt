@@ -1,5 +1,4 @@
 use Rattle.reads_answers.proofs.TakeLaws.{number-laws}
-use borrow.Author.Rules.{rules}
 use Rattle.reads_answers.proofs.piece_number.Goals as goal
 
 pub returns-then-c-o : goal.returns-then-c-o

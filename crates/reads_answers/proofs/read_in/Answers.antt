@@ -1,5 +1,4 @@
 use Rattle.reads_answers.proofs.TakeLaws.{read-case}
-use borrow.Author.Rules.{rules}
 use Rattle.reads_answers.proofs.read_in.Goals as goal
 
 pub returns-in-Free : goal.returns-in-Free

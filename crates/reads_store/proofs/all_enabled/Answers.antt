@@ -1,5 +1,4 @@
 use Rattle.reads_store.proofs.EnabledRuns.{enabled-laws}
-use borrow.Author.Rules.{rules}
 use Rattle.reads_store.proofs.all_enabled.Goals as goal
 
 pub returns-then-a-ne15 : goal.returns-then-a-ne15

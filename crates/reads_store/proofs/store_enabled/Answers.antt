@@ -1,5 +1,4 @@
 use Rattle.reads_store.proofs.Returns.{stored-laws}
-use borrow.Author.Rules.{rules}
 use Rattle.reads_store.proofs.store_enabled.Goals as goal
 
 pub returns-then-all_enabled : goal.returns-then-all_enabled

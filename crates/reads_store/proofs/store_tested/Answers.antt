@@ -1,9 +1,6 @@
-use mathlib.Core.Path.{◌≡◌, refl}
-use Prim.Native.Nat.{◌-◌, ◌≤◌}
+use mathlib.Core.Path.{refl}
 use native.Mathlib.Omega.{arith}
-use lib.ListN.{length, take, length-set}
-use Rattle.byte_enables.specs.Enables.{enabled}
-use Rattle.scans.specs.Merges.{merged}
+use lib.ListN.{length-set}
 use Rattle.scans.proofs.MergeSteps.{merge-steps}
 use borrow.Author.Rules.{rules}
 use Rattle.reads_store.proofs.store_tested.Goals as goal

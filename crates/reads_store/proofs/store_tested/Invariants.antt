@@ -1,11 +1,8 @@
-use mathlib.Core.Path.{◌≡◌, refl}
+use mathlib.Core.Path.{◌≡◌}
 use Prim.Native.Nat.{◌-◌, ◌≤◌}
-use native.Mathlib.Omega.{arith}
-use lib.ListN.{length, take, length-set}
+use lib.ListN.{length, take}
 use Rattle.byte_enables.specs.Enables.{enabled}
 use Rattle.scans.specs.Merges.{merged}
-use Rattle.scans.proofs.MergeSteps.{merge-steps}
-use borrow.Author.Rules.{rules}
 use Rattle.reads_store.proofs.store_tested.Given as goal
 
 abbrev pub invariant-loop-i : goal.invariant-loop-i

@@ -1,7 +1,6 @@
 use native.Mathlib.Omega.{arith}
 use Rattle.tlp.proofs.Bounds.{header-le}
 use Rattle.tlp_read.proofs.PayloadReturns.{payload-law}
-use borrow.Author.Rules.{rules}
 use Rattle.tlp_read.proofs.payload.Goals as goal
 
 pub overflow_mul-header_dw : goal.overflow_mul-header_dw

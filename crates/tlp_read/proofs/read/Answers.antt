@@ -1,5 +1,4 @@
 use Rattle.tlp_read.proofs.ReadReturns.{read-laws}
-use borrow.Author.Rules.{rules}
 use Rattle.tlp_read.proofs.read.Goals as goal
 
 pub returns-then-n-ne0 : goal.returns-then-n-ne0

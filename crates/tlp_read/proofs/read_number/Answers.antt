@@ -1,5 +1,4 @@
 use Rattle.tlp_read.proofs.ReadReturns.{number-laws}
-use borrow.Author.Rules.{rules}
 use Rattle.tlp_read.proofs.read_number.Goals as goal
 
 pub returns-then-not-settings_listed : goal.returns-then-not-settings_listed

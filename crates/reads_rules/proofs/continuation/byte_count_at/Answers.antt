@@ -1,5 +1,4 @@
 use Rattle.reads_rules.proofs.ContinuationLaws.{count_of}
-use borrow.Author.Rules.{rules}
 use Rattle.reads_rules.proofs.continuation.byte_count_at.Goals as goal
 
 pub returns : goal.returns

@@ -1,5 +1,4 @@
 use Rattle.reads_rules.proofs.ContinuationLaws.{cut-laws}
-use borrow.Author.Rules.{rules}
 use Rattle.reads_rules.proofs.continuation.cut_allowed.Goals as goal
 
 pub returns-then-n-lt1 : goal.returns-then-n-lt1

@@ -1,5 +1,4 @@
 use Rattle.reads_rules.proofs.ContinuationLaws.{legal-laws}
-use borrow.Author.Rules.{rules}
 use Rattle.reads_rules.proofs.continuation.legal.Goals as goal
 
 pub returns-then-not-cut_allowed : goal.returns-then-not-cut_allowed

@@ -1,5 +1,4 @@
 use Rattle.reads_rules.proofs.ContinuationLaws.{lower_of}
-use borrow.Author.Rules.{rules}
 use Rattle.reads_rules.proofs.continuation.lower_address_at.Goals as goal
 
 pub returns : goal.returns

@@ -1,5 +1,4 @@
 use Rattle.reads_rules.proofs.ContinuationLaws.{off-laws}
-use borrow.Author.Rules.{rules}
 use Rattle.reads_rules.proofs.continuation.off_at.Goals as goal
 
 pub returns-then-p-eq0 : goal.returns-then-p-eq0

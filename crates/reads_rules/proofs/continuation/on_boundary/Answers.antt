@@ -1,5 +1,4 @@
 use Rattle.reads_rules.proofs.ContinuationLaws.{boundary-laws}
-use borrow.Author.Rules.{rules}
 use Rattle.reads_rules.proofs.continuation.on_boundary.Goals as goal
 
 pub returns-then-rcb-eq64 : goal.returns-then-rcb-eq64

@@ -1,5 +1,4 @@
 use Rattle.reads_rules.proofs.ContinuationLaws.{boundary-mod, remainders-fit}
-use borrow.Author.Rules.{rules}
 use Rattle.reads_rules.proofs.continuation.on_multiple.Goals as goal
 
 pub overflow_add-result : goal.overflow_add-result

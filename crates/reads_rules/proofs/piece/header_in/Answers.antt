@@ -1,5 +1,4 @@
 use Rattle.reads_rules.proofs.PieceLaws.{header-case}
-use borrow.Author.Rules.{rules}
 use Rattle.reads_rules.proofs.piece.header_in.Goals as goal
 
 pub returns-in-CompletionData : goal.returns-in-CompletionData

@@ -1,5 +1,4 @@
 use Rattle.reads_rules.proofs.PieceLaws.{piece-law}
-use borrow.Author.Rules.{rules}
 use Rattle.reads_rules.proofs.piece.piece_of.Goals as goal
 
 pub returns : goal.returns

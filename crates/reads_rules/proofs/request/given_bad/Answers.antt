@@ -1,7 +1,6 @@
 use Rattle.reads_rules.proofs.RequestLaws.{given-law}
 use native.Mathlib.Omega.{arith}
 use Rattle.bits.proofs.ChoiceLaws.{or-laws}
-use borrow.Author.Rules.{rules}
 use Rattle.reads_rules.proofs.request.given_bad.Goals as goal
 
 pub returns-then-fields_over : goal.returns-then-fields_over

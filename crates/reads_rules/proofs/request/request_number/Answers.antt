@@ -1,6 +1,5 @@
 use Rattle.tlp.proofs.RowLaws.{rows}
 use Rattle.tlp.specs.Contents.{enables_bad, page_bad}
-use borrow.Author.Rules.{rules}
 use Rattle.reads_rules.proofs.request.request_number.Goals as goal
 
 pub returns-then-given_bad : goal.returns-then-given_bad

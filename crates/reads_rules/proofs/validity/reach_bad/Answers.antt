@@ -1,6 +1,5 @@
 use Rattle.bits.proofs.ChoiceLaws.{or-laws}
 use Rattle.reads_rules.proofs.RequestLaws.{not_same}
-use borrow.Author.Rules.{rules}
 use Rattle.reads_rules.proofs.validity.reach_bad.Goals as goal
 
 pub returns-then-crosses_page : goal.returns-then-crosses_page

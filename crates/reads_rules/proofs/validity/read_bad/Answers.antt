@@ -1,7 +1,6 @@
 use native.Mathlib.Omega.{arith}
 use Rattle.bits.proofs.ChoiceLaws.{or-laws}
 use Rattle.reads_rules.proofs.RequestLaws.{bad-law}
-use borrow.Author.Rules.{rules}
 use Rattle.reads_rules.proofs.validity.read_bad.Goals as goal
 
 pub returns-then-fields_over : goal.returns-then-fields_over

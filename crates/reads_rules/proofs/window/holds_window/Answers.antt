@@ -1,5 +1,4 @@
 use Rattle.reads_rules.proofs.WindowLaws.{holds-laws}
-use borrow.Author.Rules.{rules}
 use Rattle.reads_rules.proofs.window.holds_window.Goals as goal
 
 pub returns-then-room-gt-STORE_LIMIT : goal.returns-then-room-gt-STORE_LIMIT

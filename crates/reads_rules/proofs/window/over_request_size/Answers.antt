@@ -1,5 +1,4 @@
 use Rattle.reads_rules.proofs.WindowLaws.{over-size}
-use borrow.Author.Rules.{rules}
 use Rattle.reads_rules.proofs.window.over_request_size.Goals as goal
 
 pub returns : goal.returns

@@ -1,5 +1,4 @@
 use Rattle.reads_rules.proofs.WindowLaws.{place-laws}
-use borrow.Author.Rules.{rules}
 use Rattle.reads_rules.proofs.window.place_bad.Goals as goal
 
 pub returns-then-room-gt-STORE_LIMIT : goal.returns-then-room-gt-STORE_LIMIT

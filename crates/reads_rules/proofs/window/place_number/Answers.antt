@@ -1,5 +1,4 @@
 use Rattle.tlp.proofs.RowLaws.{rows}
-use borrow.Author.Rules.{rules}
 use Rattle.reads_rules.proofs.window.place_number.Goals as goal
 
 pub returns-then-over_request_size : goal.returns-then-over_request_size

@@ -1,5 +1,4 @@
 use Rattle.reads_rules.proofs.WindowLaws.{shares-laws}
-use borrow.Author.Rules.{rules}
 use Rattle.reads_rules.proofs.window.shares_byte.Goals as goal
 
 pub returns-then-before_end : goal.returns-then-before_end

@@ -1,10 +1,4 @@
-use Prim.Native.Nat.{◌-◌, ◌*◌, ◌/◌, ◌≤◌}
 use native.Mathlib.Omega.{arith}
-use mathlib.Core.Path.{◌≡◌}
-use mathlib.Core.Bool.{true}
-use Rattle.scans.specs.Belows.{all_below}
-use Rattle.reads_words.specs.Capacity.{capacity}
-use Rattle.reads_slots.specs.Records.{valid_at}
 use borrow.Author.Rules.{rules}
 use Rattle.reads_slots.proofs.ScanLaws.{scan-laws}
 use Rattle.reads_slots.proofs.open_tags.all_valid.Goals as goal

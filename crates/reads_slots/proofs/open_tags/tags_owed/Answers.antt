@@ -1,9 +1,4 @@
-use Prim.Native.Nat.{◌-◌, ◌*◌, ◌/◌, ◌≤◌}
 use native.Mathlib.Omega.{arith}
-use mathlib.Core.Path.{◌≡◌}
-use Rattle.scans.specs.Belows.{sum_below}
-use Rattle.reads_words.specs.Capacity.{capacity}
-use Rattle.reads_slots.specs.Records.{owed_at}
 use borrow.Author.Rules.{rules}
 use Rattle.reads_slots.proofs.ScanLaws.{scan-laws}
 use Rattle.reads_slots.proofs.open_tags.tags_owed.Goals as goal

@@ -1,10 +1,4 @@
-use Prim.Native.Nat.{◌-◌, ◌*◌, ◌/◌, ◌≤◌}
 use native.Mathlib.Omega.{arith}
-use mathlib.Core.Path.{◌≡◌}
-use mathlib.Core.Bool.{false}
-use Rattle.scans.specs.Belows.{any_below}
-use Rattle.reads_words.specs.Capacity.{capacity}
-use Rattle.reads_slots.specs.Records.{shares_at}
 use borrow.Author.Rules.{rules}
 use Rattle.reads_slots.proofs.ScanLaws.{scan-laws}
 use Rattle.reads_slots.proofs.open_tags.window_taken.Goals as goal

@@ -1,11 +1,7 @@
 use Prim.Native.Nat.{◌+◌, ◌^◌, ◌<◌}
-use native.Mathlib.Omega.{arith}
 use mathlib.Core.Path.{◌≡◌}
-use native.Mathlib.Nat.{zero-add}
 use Rattle.scans.specs.Belows.{sum_below}
 use Rattle.reads_slots.specs.Inner.WordScans.{owed_in_word}
-use borrow.Author.Rules.{rules}
-use Rattle.reads_slots.proofs.ScanLaws.{turn-laws}
 use Rattle.reads_slots.proofs.open_tags.word_owed.Given as goal
 
 abbrev pub invariant-loop-rest : goal.invariant-loop-rest

@@ -1,8 +1,5 @@
-use Prim.Native.Nat.{◌^◌, ◌<◌}
 use native.Mathlib.Omega.{arith}
-use mathlib.Core.Path.{◌≡◌, refl}
-use Rattle.scans.specs.Belows.{all_below}
-use Rattle.reads_slots.specs.Inner.WordScans.{valid_in}
+use mathlib.Core.Path.{refl}
 use borrow.Author.Rules.{rules}
 use Rattle.reads_slots.proofs.ScanLaws.{turn-laws}
 use Rattle.reads_slots.proofs.open_tags.word_valid.Goals as goal

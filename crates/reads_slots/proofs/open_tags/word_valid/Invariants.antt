@@ -1,10 +1,7 @@
 use Prim.Native.Nat.{◌^◌, ◌<◌}
-use native.Mathlib.Omega.{arith}
-use mathlib.Core.Path.{◌≡◌, refl}
+use mathlib.Core.Path.{◌≡◌}
 use Rattle.scans.specs.Belows.{all_below}
 use Rattle.reads_slots.specs.Inner.WordScans.{valid_in}
-use borrow.Author.Rules.{rules}
-use Rattle.reads_slots.proofs.ScanLaws.{turn-laws}
 use Rattle.reads_slots.proofs.open_tags.word_valid.Given as goal
 
 abbrev pub invariant-loop-rest : goal.invariant-loop-rest

@@ -1,5 +1,4 @@
 use Rattle.tlp.proofs.RowLaws.{rows}
-use borrow.Author.Rules.{rules}
 use Rattle.tlp_read.proofs.completion.completion_number.Goals as goal
 
 pub returns-then-bytes-size_with_digest : goal.returns-then-bytes-size_with_digest

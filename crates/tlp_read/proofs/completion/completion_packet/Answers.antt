@@ -1,5 +1,4 @@
 use Rattle.tlp_read.proofs.CompletionLaws.{packet-in}
-use borrow.Author.Rules.{rules}
 use Rattle.tlp_read.proofs.completion.completion_packet.Goals as goal
 
 pub returns : goal.returns

@@ -1,5 +1,4 @@
 use Rattle.tlp_read.proofs.CompletionLaws.{has-laws}
-use borrow.Author.Rules.{rules}
 use Rattle.tlp_read.proofs.completion.has_completion.Goals as goal
 
 pub returns-then-bytes-lt12 : goal.returns-then-bytes-lt12

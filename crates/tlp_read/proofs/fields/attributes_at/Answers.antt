@@ -1,5 +1,4 @@
 use Rattle.tlp_read.proofs.FieldReturns.{attributes-laws}
-use borrow.Author.Rules.{rules}
 use Rattle.tlp_read.proofs.fields.attributes_at.Goals as goal
 
 pub returns-then-is_io_or_config : goal.returns-then-is_io_or_config

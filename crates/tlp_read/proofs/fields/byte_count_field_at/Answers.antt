@@ -1,5 +1,4 @@
 use Rattle.tlp_read.proofs.FieldReturns.{count_law}
-use borrow.Author.Rules.{rules}
 use Rattle.tlp_read.proofs.fields.byte_count_field_at.Goals as goal
 
 pub returns : goal.returns

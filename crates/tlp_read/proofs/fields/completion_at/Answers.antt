@@ -1,5 +1,4 @@
 use Rattle.tlp_read.proofs.FieldReturns.{completion-law}
-use borrow.Author.Rules.{rules}
 use Rattle.tlp_read.proofs.fields.completion_at.Goals as goal
 
 pub returns : goal.returns

@@ -1,5 +1,4 @@
 use Rattle.tlp_read.proofs.FieldReturns.{digest-laws}
-use borrow.Author.Rules.{rules}
 use Rattle.tlp_read.proofs.fields.digest_word.Goals as goal
 
 pub returns-then-digest_at : goal.returns-then-digest_at

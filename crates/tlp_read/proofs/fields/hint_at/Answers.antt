@@ -1,5 +1,4 @@
 use Rattle.tlp_read.proofs.FieldReturns.{hint-law}
-use borrow.Author.Rules.{rules}
 use Rattle.tlp_read.proofs.fields.hint_at.Goals as goal
 
 pub returns : goal.returns

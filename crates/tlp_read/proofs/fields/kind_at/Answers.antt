@@ -1,6 +1,5 @@
 use Rattle.tlp_read.proofs.FieldReturns.{kind-law}
 use Rattle.tlp_read.specs.Fields.{kind_at}
-use borrow.Author.Rules.{rules}
 use Rattle.tlp_read.proofs.fields.kind_at.Goals as goal
 
 pub returns-in-MRd32 : goal.returns-in-MRd32

@@ -1,5 +1,4 @@
 use Rattle.tlp_read.proofs.ReadReturns.{address-laws}
-use borrow.Author.Rules.{rules}
 use Rattle.tlp_read.proofs.fields.memory_address.Goals as goal
 
 pub returns-then-is_wide : goal.returns-then-is_wide

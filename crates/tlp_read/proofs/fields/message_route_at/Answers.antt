@@ -1,5 +1,4 @@
 use Rattle.tlp_read.proofs.FieldReturns.{message-route-laws}
-use borrow.Author.Rules.{rules}
 use Rattle.tlp_read.proofs.fields.message_route_at.Goals as goal
 
 pub returns-then-routing-eq1 : goal.returns-then-routing-eq1

@@ -1,5 +1,4 @@
 use Rattle.tlp_read.proofs.FieldReturns.{packet-law}
-use borrow.Author.Rules.{rules}
 use Rattle.tlp_read.proofs.fields.packet_at.Goals as goal
 
 pub returns : goal.returns

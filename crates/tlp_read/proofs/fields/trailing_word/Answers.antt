@@ -1,5 +1,4 @@
 use Rattle.tlp_read.proofs.FieldReturns.{trailing-short, trailing-part}
-use borrow.Author.Rules.{rules}
 use Rattle.tlp_read.proofs.fields.trailing_word.Goals as goal
 
 pub returns-then-bytes-lt4 : goal.returns-then-bytes-lt4

@@ -1,5 +1,4 @@
 use Rattle.tlp_read.proofs.ReadReturns.{data-laws}
-use native.Mathlib.Omega.{arith}
 use borrow.Author.Rules.{rules}
 use Rattle.tlp_read.proofs.rows.data_size.Goals as goal
 

@@ -1,5 +1,4 @@
 use Rattle.tlp_read.proofs.ReadReturns.{header-laws}
-use native.Mathlib.Omega.{arith}
 use borrow.Author.Rules.{rules}
 use Rattle.tlp_read.proofs.rows.header_size.Goals as goal
 

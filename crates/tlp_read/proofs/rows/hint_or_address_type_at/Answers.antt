@@ -1,6 +1,5 @@
 use Rattle.tlp_read.proofs.ReadReturns.{last-ne}
 use Rattle.bits.proofs.ChoiceLaws.{or-laws}
-use borrow.Author.Rules.{rules}
 use Rattle.tlp_read.proofs.rows.hint_or_address_type_at.Goals as goal
 
 pub returns-then-hint_at : goal.returns-then-hint_at

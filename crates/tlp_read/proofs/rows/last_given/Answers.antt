@@ -1,5 +1,4 @@
 use Rattle.tlp_read.proofs.ReadReturns.{last-ne}
-use borrow.Author.Rules.{rules}
 use Rattle.tlp_read.proofs.rows.last_given.Goals as goal
 
 pub returns : goal.returns

@@ -1,5 +1,4 @@
 use Rattle.tlp_read.proofs.ReadReturns.{access-law}
-use borrow.Author.Rules.{rules}
 use Rattle.tlp_read.proofs.rows.memory_access.Goals as goal
 
 pub returns : goal.returns

@@ -1,6 +1,5 @@
 use Rattle.tlp_read.proofs.ReadReturns.{memory-rows, memory-rows-of, memory-listed}
 use Rattle.tlp.proofs.RowLaws.{rows}
-use borrow.Author.Rules.{rules}
 use Rattle.tlp_read.proofs.rows.memory_number.Goals as goal
 
 pub returns-then-hint_or_address_type_at : goal.returns-then-hint_or_address_type_at

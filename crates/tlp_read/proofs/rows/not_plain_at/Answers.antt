@@ -1,5 +1,4 @@
 use Rattle.tlp_read.proofs.ReadReturns.{plain-law}
-use borrow.Author.Rules.{rules}
 use Rattle.tlp_read.proofs.rows.not_plain_at.Goals as goal
 
 pub returns : goal.returns

@@ -1,6 +1,5 @@
 use Rattle.tlp_read.proofs.ReadReturns.{register-rows}
 use Rattle.tlp.proofs.RowLaws.{rows}
-use borrow.Author.Rules.{rules}
 use Rattle.tlp_read.proofs.rows.register_number.Goals as goal
 
 pub returns-then-mps-payload : goal.returns-then-mps-payload

@@ -1,7 +1,6 @@
 use Rattle.tlp_read.proofs.ReadReturns.{size-law}
 use Rattle.tlp.proofs.Bounds.{digest-le}
 use native.Mathlib.Omega.{arith}
-use borrow.Author.Rules.{rules}
 use Rattle.tlp_read.proofs.rows.size_with_digest.Goals as goal
 
 pub overflow_add-result-2 : goal.overflow_add-result-2

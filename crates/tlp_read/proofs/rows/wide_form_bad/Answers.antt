@@ -1,5 +1,4 @@
 use Rattle.tlp_read.proofs.ReadReturns.{form-laws}
-use borrow.Author.Rules.{rules}
 use Rattle.tlp_read.proofs.rows.wide_form_bad.Goals as goal
 
 pub returns-then-is_wide : goal.returns-then-is_wide
