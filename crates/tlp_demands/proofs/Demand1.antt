@@ -5,7 +5,7 @@ use mathlib.Core.List.{List}
 use native.Mathlib.Omega.{arith}
 use lib.ListN.{length}
 use Rattle.bits.specs.Put.{over_front}
-use Rattle.tlp.specs.Rows.{first}
+use Rattle.tlp.specs.Rows.{first, AnsweredBy}
 use Rattle.tlp.specs.declared.settings.Settings.{Settings}
 use Rattle.tlp.specs.declared.packet.Packet.{Packet}
 use Rattle.tlp.proofs.RowLaws.{answered-by}
@@ -27,12 +27,17 @@ pub read-value : (n : ℕ) (p : Packet) → reader_number (answer_of n p) ≡ 0 
 read-value zero p e = refl
 read-value (suc n) p e = absurd (omega arith)
 
+module _ (settings : Settings) (packet : List ℕ) where
+  read-answered : AnsweredBy (reader_number (read_packet settings packet)) (read_rows settings packet)
+  unfolding read_packet
+  read-answered = answered-by (read_rows settings packet) _ refl (read_number_lem (first (read_rows settings packet)) (packet_in packet))
+
+  read-accepted : reader_number (read_packet settings packet) ≡ 0 → read_packet settings packet ≡ Accepted (packet_in packet)
+  unfolding read_packet
+  read-accepted = read-value (first (read_rows settings packet)) (packet_in packet)
+
 read-exactly : (settings : Settings) (packet : List ℕ) → ReadExactly settings packet
-unfolding read_packet
-read-exactly settings packet = record {
-  number = answered-by (read_rows settings packet) _ refl (read_number_lem (first (read_rows settings packet)) (packet_in packet));
-  value = read-value (first (read_rows settings packet)) (packet_in packet);
-}
+read-exactly settings packet = record { number = read-answered settings packet; value = read-accepted settings packet }
 
 -- ---- the writer's answer
 
