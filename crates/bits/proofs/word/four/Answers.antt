@@ -1,6 +1,5 @@
 use native.Mathlib.Omega.{arith}
 use Rattle.bits.proofs.WordLaws.{word_split}
-use borrow.Author.Rules.{rules}
 use Rattle.bits.proofs.word.four.Goals as goal
 
 pub returns : goal.returns

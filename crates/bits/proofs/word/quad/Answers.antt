@@ -1,4 +1,3 @@
-use borrow.Author.Rules.{rules}
 use native.Mathlib.Omega.{arith}
 use Rattle.bits.proofs.WordLaws.{word_split}
 use Rattle.bits.proofs.word.quad.Goals as goal
