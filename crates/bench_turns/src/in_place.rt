@@ -1,4 +1,4 @@
-// The same turns with one table, u, lent to every call. Both kinds of turn are in one loop, so that one walk proves it.
+// The same turns with one table, u, lent to every call. Both kinds of turn are in one loop, with one invariant.
 use crate::code::{take_turn_code, withdraw_turn_code};
 use reads::table::Table;
 use reads_in_place::{open, take, withdraw};
