@@ -203,8 +203,8 @@ def believed():
 
 
 def has_code(crate):
-    """Whether a crate has a function."""
-    return any(re.search(r"\bfn \w", text_of(n)) for n in files_below(path("crates", crate, "src"), ".rt"))
+    """Whether a crate has a function or a constant."""
+    return any(re.search(r"\b(?:fn|const) \w", text_of(n)) for n in files_below(path("crates", crate, "src"), ".rt"))
 
 
 def counts():

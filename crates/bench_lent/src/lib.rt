@@ -124,8 +124,8 @@ pub extern "C" fn bench_withdraw(
     words: &mut Words,
     tag: u32,
 ) -> u32
-    ensures value { result ≡ withdraw_number (withdraw_call (table_in from.now opened.old words.old) tag
-        ).answer }
+    ensures value { result
+        ≡ withdraw_number (withdraw_call (table_in from.now opened.old words.old) tag).answer }
     ensures words_after { table_in from.now opened.new words.new
         ≡ (withdraw_call (table_in from.now opened.old words.old) tag).table }
 {

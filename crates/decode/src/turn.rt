@@ -1,5 +1,5 @@
 // A turn: a block is read, what it gives is laid into the output's buffer, and that is printed; and the end. Only
-// read_block and print call the system.
+// read_block reads and only print writes; both say so on standard error where that fails.
 ghost use Rattle.std.specs.Prelude.{◌≡◌, ◌⊎◌, ◌+◌, ◌-◌, ◌≤◌, length};
 ghost use Rattle.text.specs.Words.{part};
 ghost use Rattle.decode.specs.Inner.Reads.{Moved};
