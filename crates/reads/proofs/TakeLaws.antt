@@ -158,7 +158,7 @@ module _ (v : Bool) (o : Origin) (x : State) (bytes : List ℕ) where
 
 pub ruleset outcome-laws = (outcome-11, outcome-other, outcome-completion)
 
-pub ruleset Laid-laws = (laid-11, laid-other, laid-completion)
+pub ruleset laid-laws = (laid-11, laid-other, laid-completion)
 
 -- ---- byte 10: a completion's tag; what is no completion is answered 29, whichever record is looked at
 

@@ -73,4 +73,4 @@ module _ (at n : ℕ) (src out : List ℕ) (e : n ≡ length src) (r : Bool) (f 
   unfolding laid
   laid-whole last h q = rw (← e, ← f, not-false r h) q
 
-pub ruleset Laid-laws = (after_none, laid_none, after-whole, laid-whole)
+pub ruleset laid-laws = (after_none, laid_none, after-whole, laid-whole)

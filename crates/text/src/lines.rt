@@ -5,6 +5,7 @@ ghost use Rattle.std.specs.Prelude.{◌≡◌, ◌≢◌, ℕ, ◌≤◌, ◌<�
 pub fn line_end(text: &[u8], at: usize) -> usize
     ensures within { result ≤ length text.now }
     ensures behind { at ≤ length text.now → at ≤ result }
+    ensures past { length text.now < at → result ≡ length text.now }
     ensures before { (k : ℕ) → at ≤ k → k < result → slice_index text.now k ≢ 10 }
     ensures newline { result < length text.now → slice_index text.now result ≡ 10 }
 {
