@@ -123,11 +123,5 @@ module _ (b : ℕ) where
       (λ _. refl) (λ _. refl) (λ h. absurd (true≢false h))
 
   module _ (v : Family) where
-    pub type-key : (k : ℕ) → b % 32 ≡ k → v ≡ family_by_type k → v ≡ family_by_type (b % 32)
-    type-key k q r = rw q r
-
-    pub type-rest : (b % 32 ≡ 0 → ⊥) → (b % 32 ≡ 2 → ⊥) → (b % 32 ≡ 4 → ⊥) → (b % 32 ≡ 5 → ⊥) → (b % 32 ≡ 10 → ⊥) → v ≡ Message → v ≡ family_by_type (b % 32)
-    type-rest h0 h2 h4 h5 h10 r = rw (ne_eqb (b % 32) 0 h0, ne_eqb (b % 32) 2 h2, ne_eqb (b % 32) 4 h4, ne_eqb (b % 32) 5 h5, ne_eqb (b % 32) 10 h10) r
-
     pub type-listed : v ≡ family_by_type (b % 32) → is_unlisted (family_of (type_at b)) ≡ false → v ≡ family_of (type_at b)
     type-listed e h = e ∙ by-type h

@@ -1,5 +1,5 @@
 pub mod RowLaws
-pub mod Returns
+pub mod RefusalLaws
 pub mod Bounds
 pub mod FmtLaws
 pub mod FamilyLaws

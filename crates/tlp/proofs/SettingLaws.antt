@@ -1,25 +1,16 @@
 -- The listed sizes are the powers of two from 128 to 4096, computed for each number.
-use Prim.Native.Nat.{ℕ, ◌≤◌, ◌<◌}
+use Prim.Native.Nat.{ℕ, ◌≤◌}
 use mathlib.Core.Path.{◌≡◌, refl, ap, ◌∙◌}
-use mathlib.Core.Bool.{Bool, true, false, ◌||◌}
+use mathlib.Core.Bool.{Bool, true, ◌||◌}
 use native.Mathlib.Omega.{arith}
 use lib.Dec.{eqb, ltb}
 use lib.Count.{ones}
-use borrow.Author.Tests.{ne_eqb, le-ltb}
+use borrow.Author.Tests.{le-ltb}
 use Rattle.bits.specs.Choice.{one_of}
 use Rattle.bits.specs.Count.{set_bits}
 use Rattle.bits.proofs.CountLaws.{ones-set}
 use Rattle.tlp.specs.Settings.{sizes}
 use Rattle.tlp.proofs.FmtLaws.{all_below, below, agree, agree_same}
-
-none-listed : (n : ℕ) → (n ≡ 128 → ⊥) → (n ≡ 256 → ⊥) → (n ≡ 512 → ⊥) → (n ≡ 1024 → ⊥) → (n ≡ 2048 → ⊥) → (n ≡ 4096 → ⊥) → false ≡ one_of sizes n
-none-listed n a b c d e f = rw (ne_eqb n 128 a, ne_eqb n 256 b, ne_eqb n 512 c, ne_eqb n 1024 d, ne_eqb n 2048 e, ne_eqb n 4096 f)
-
-pub size_below : (n : ℕ) → n < 128 → false ≡ one_of sizes n
-size_below n h = none-listed n (λ e. omega (arith, h, e)) (λ e. omega (arith, h, e)) (λ e. omega (arith, h, e)) (λ e. omega (arith, h, e)) (λ e. omega (arith, h, e)) (λ e. omega (arith, h, e))
-
-pub size_above : (n : ℕ) → 4096 < n → false ≡ one_of sizes n
-size_above n h = none-listed n (λ e. omega (arith, h, e)) (λ e. omega (arith, h, e)) (λ e. omega (arith, h, e)) (λ e. omega (arith, h, e)) (λ e. omega (arith, h, e)) (λ e. omega (arith, h, e))
 
 abbrev as_listed : ℕ → Bool
 as_listed n = ltb n 128 || agree (eqb (set_bits 13 n) 1) (one_of sizes n)

@@ -1,4 +1,5 @@
 pub mod Rows
+pub mod Refusals
 pub mod Settings
 pub mod PacketTypes
 pub mod Packets

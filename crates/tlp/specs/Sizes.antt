@@ -1,13 +1,13 @@
 -- Document 01: the size that a header calls for, "header + data + digest". All to be believed.
-use Rattle.std.specs.Prelude.{ℕ, zero, suc, ◌+◌, ◌*◌, Bool, ◌&&◌, List, [], ◌∷◌, eqb, ltb, length}
+use Rattle.std.specs.Prelude.{ℕ, ◌+◌, ◌*◌, Bool, ◌&&◌, List, [], ◌∷◌, eqb, ltb, length, Result}
 use Rattle.bits.specs.Choice.{pick}
 use Rattle.bits.specs.Field.{low, bit}
 use Rattle.bits.specs.Word.{byte}
 use Rattle.tlp.specs.Rows.{Row, row, first}
 use Rattle.tlp.specs.PacketTypes.{packet_type_at, header_dw, has_data, family_of, is_unlisted}
 use Rattle.tlp.specs.declared.packet_type.PacketType.{PacketType}
-use Rattle.tlp.specs.declared.size.PacketSize.{PacketSize}
-use Rattle.tlp.specs.declared.size.PacketSize.TheVariants.{Bytes, Refused}
+use Rattle.tlp.specs.declared.refusal.Refusal.{Refusal}
+use Rattle.tlp.specs.Refusals.{answered}
 
 -- a count field in which 0 stands for the largest count
 unfoldable pub or_most : ℕ → ℕ → ℕ
@@ -45,16 +45,6 @@ type_rows n t =
 abbrev pub size_rows : List ℕ → List Row
 size_rows bytes = type_rows (length bytes) (packet_type_at bytes)
 
--- a size where no row gave a number
-abbrev pub size_answer : ℕ → ℕ → PacketSize
-size_answer zero size = Bytes size
-size_answer (suc n) size = Refused (suc n)
-
--- the number of an answer; 0 where there is a size
-abbrev pub number_of : PacketSize → ℕ
-number_of (Bytes n) = 0
-number_of (Refused n) = n
-
 -- the size that the header at the front of the bytes calls for, or the number that says why there is none
-unfoldable pub size_called : List ℕ → PacketSize
-size_called bytes = size_answer (first (size_rows bytes)) (bytes_called (packet_type_at bytes) bytes)
+unfoldable pub size_called : List ℕ → Result ℕ Refusal
+size_called bytes = answered (first (size_rows bytes)) (bytes_called (packet_type_at bytes) bytes)

@@ -6,7 +6,7 @@ use crate::packet_type::PacketType;
 use byte_enables::Access;
 
 // Where an implicitly routed message goes: routing 000, 011, 100, 101.
-#[derive(Clone, Copy)]
+#[derive(Clone, Copy, Debug, PartialEq, Eq)]
 pub enum Implicit {
     Root,
     Broadcast,
@@ -15,7 +15,7 @@ pub enum Implicit {
 }
 
 // Memory and I/O go by address, configuration by target ID, completions by requester ID, messages by their routing.
-#[derive(Clone, Copy)]
+#[derive(Clone, Copy, Debug, PartialEq, Eq)]
 pub enum Route {
     Address(u64),
     Id(u16),
@@ -23,7 +23,7 @@ pub enum Route {
 }
 
 // A memory or I/O request; its address is the route.
-#[derive(Clone, Copy)]
+#[derive(Clone, Copy, Debug, PartialEq, Eq)]
 pub struct Request {
     pub requester: u16,
     pub tag: u8,
@@ -33,7 +33,7 @@ pub struct Request {
 }
 
 // A configuration request; its target is the route.
-#[derive(Clone, Copy)]
+#[derive(Clone, Copy, Debug, PartialEq, Eq)]
 pub struct ConfigRequest {
     pub request: Request,
     pub extended_register: u8,
@@ -41,7 +41,7 @@ pub struct ConfigRequest {
 }
 
 // A message; body is bytes 8 to 15, carried whole.
-#[derive(Clone, Copy)]
+#[derive(Clone, Copy, Debug, PartialEq, Eq)]
 pub struct MessageRequest {
     pub requester: u16,
     pub tag: u8,
@@ -50,7 +50,7 @@ pub struct MessageRequest {
 }
 
 // A completion; its requester is the route.
-#[derive(Clone, Copy)]
+#[derive(Clone, Copy, Debug, PartialEq, Eq)]
 pub struct CompletionHeader {
     pub completer: u16,
     pub status: u8,
@@ -61,7 +61,7 @@ pub struct CompletionHeader {
 }
 
 // What a packet is, with the fields that only packets of that kind have.
-#[derive(Clone, Copy)]
+#[derive(Clone, Copy, Debug, PartialEq, Eq)]
 pub enum Kind {
     MemoryRead(Request),
     MemoryWrite(Request),
@@ -84,7 +84,7 @@ pub enum Kind {
 }
 
 // What reading gives and writing takes.
-#[derive(Clone, Copy)]
+#[derive(Clone, Copy, Debug, PartialEq, Eq)]
 pub struct Packet {
     pub traffic_class: u8,
     pub attributes: u8,
@@ -102,8 +102,7 @@ pub fn address_of(r: Route) -> u64
 {
     match r {
         Route::Address(a) => a,
-        Route::Id(_) => 0,
-        Route::Implicit(_) => 0,
+        Route::Id(_) | Route::Implicit(_) => 0,
     }
 }
 
@@ -112,9 +111,8 @@ pub fn id_of(r: Route) -> u16
     ensures { result ≡ id_of r }
 {
     match r {
-        Route::Address(_) => 0,
         Route::Id(i) => i,
-        Route::Implicit(_) => 0,
+        Route::Address(_) | Route::Implicit(_) => 0,
     }
 }
 
@@ -122,20 +120,16 @@ pub fn id_of(r: Route) -> u16
 pub fn memory_form(address: u64, narrow: PacketType, wide: PacketType) -> PacketType
     ensures { result ≡ memory_form address narrow wide }
 {
-    if address < 4294967296 {
-        return narrow;
-    }
-    wide
+    if address < 4294967296 { narrow } else { wide }
 }
 
 // The type that a packet is written as.
+#[tactic(auto, unfolding(crate::specs::Packets::type_of))]
 pub fn type_of(p: Packet) -> PacketType
     ensures { result ≡ type_of p }
 {
-    let r = p.route;
-    let a = address_of(r);
-    let k = p.kind;
-    match k {
+    let a = address_of(p.route);
+    match p.kind {
         Kind::MemoryRead(_) => memory_form(a, PacketType::MRd32, PacketType::MRd64),
         Kind::MemoryWrite(_) => memory_form(a, PacketType::MWr32, PacketType::MWr64),
         Kind::IoRead(_) => PacketType::IORd,
@@ -145,15 +139,9 @@ pub fn type_of(p: Packet) -> PacketType
         Kind::ConfigRead1(_) => PacketType::CfgRd1,
         Kind::ConfigWrite1(_) => PacketType::CfgWr1,
         Kind::Message(_) => PacketType::Msg,
-        Kind::MessageData {
-            message: _,
-            length: _,
-        } => PacketType::MsgD,
+        Kind::MessageData { .. } => PacketType::MsgD,
         Kind::Completion(_) => PacketType::Cpl,
-        Kind::CompletionData {
-            completion: _,
-            length: _,
-        } => PacketType::CplD,
+        Kind::CompletionData { .. } => PacketType::CplD,
     }
 }
 
@@ -162,7 +150,7 @@ pub fn access_at(address: u64, q: Request) -> Access
     ensures { result ≡ access_at address q }
 {
     Access {
-        address: address,
+        address,
         length: q.length,
         first: q.first,
         last: q.last,
@@ -175,46 +163,29 @@ fn length_alone(length: u32) -> Access
 {
     Access {
         address: 0,
-        length: length,
+        length,
         first: 0,
         last: 0,
     }
 }
 
 // Address, length and enables of a packet, each 0 where its kind has none.
+#[tactic(auto, unfolding(crate::specs::Packets::access_of))]
 pub fn access_of(p: Packet) -> Access
     ensures { result ≡ access_of p }
 {
-    let r = p.route;
-    let address = address_of(r);
-    let k = p.kind;
-    match k {
-        Kind::MemoryRead(q) => access_at(address, q),
-        Kind::MemoryWrite(q) => access_at(address, q),
-        Kind::IoRead(q) => access_at(address, q),
-        Kind::IoWrite(q) => access_at(address, q),
-        Kind::ConfigRead0(q) => {
-            let own = q.request;
-            access_at(address, own)
+    let address = address_of(p.route);
+    match p.kind {
+        Kind::MemoryRead(q) | Kind::MemoryWrite(q) | Kind::IoRead(q) | Kind::IoWrite(q) => {
+            access_at(address, q)
         }
-        Kind::ConfigWrite0(q) => {
-            let own = q.request;
-            access_at(address, own)
+        Kind::ConfigRead0(q)
+        | Kind::ConfigWrite0(q)
+        | Kind::ConfigRead1(q)
+        | Kind::ConfigWrite1(q) => access_at(address, q.request),
+        Kind::Message(_) | Kind::Completion(_) => length_alone(0),
+        Kind::MessageData { length, .. } | Kind::CompletionData { length, .. } => {
+            length_alone(length)
         }
-        Kind::ConfigRead1(q) => {
-            let own = q.request;
-            access_at(address, own)
-        }
-        Kind::ConfigWrite1(q) => {
-            let own = q.request;
-            access_at(address, own)
-        }
-        Kind::Message(_) => length_alone(0),
-        Kind::MessageData { message: _, length } => length_alone(length),
-        Kind::Completion(_) => length_alone(0),
-        Kind::CompletionData {
-            completion: _,
-            length,
-        } => length_alone(length),
     }
 }

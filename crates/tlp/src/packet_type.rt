@@ -6,7 +6,7 @@ ghost use Rattle.tlp.specs.PacketTypes.{type_at, header_dw, has_data, first_byte
 ghost use Rattle.tlp.specs.Inner.PacketTypes.{family_by_type};
 
 // The rows of the kind table.
-#[derive(Clone, Copy)]
+#[derive(Clone, Copy, Debug, PartialEq, Eq)]
 pub enum PacketType {
     MRd32,
     MRd64,
@@ -27,7 +27,7 @@ pub enum PacketType {
 }
 
 // Types that fall under the same rules.
-#[derive(Clone, Copy)]
+#[derive(Clone, Copy, Debug, PartialEq, Eq)]
 pub enum Family {
     Memory,
     Io,
@@ -38,15 +38,10 @@ pub enum Family {
 }
 
 // The type that byte 0 says.
+#[tactic(auto, unfolding(crate::specs::PacketTypes::type_at))]
 pub fn type_at(b0: u8) -> PacketType
     ensures { result ≡ type_at b0 }
 {
-    if b0 / 8 == 6 {
-        return PacketType::Msg;
-    }
-    if b0 / 8 == 14 {
-        return PacketType::MsgD;
-    }
     match b0 {
         0x00 => PacketType::MRd32,
         0x20 => PacketType::MRd64,
@@ -58,6 +53,8 @@ pub fn type_at(b0: u8) -> PacketType
         0x44 => PacketType::CfgWr0,
         0x05 => PacketType::CfgRd1,
         0x45 => PacketType::CfgWr1,
+        0x30..=0x37 => PacketType::Msg,
+        0x70..=0x77 => PacketType::MsgD,
         0x0A => PacketType::Cpl,
         0x4A => PacketType::CplD,
         _ => PacketType::Unlisted,
@@ -69,20 +66,17 @@ pub fn header_dw(t: PacketType) -> usize
     ensures { result ≡ header_dw t }
 {
     match t {
-        PacketType::MRd32 => 3,
-        PacketType::MRd64 => 4,
-        PacketType::MWr32 => 3,
-        PacketType::MWr64 => 4,
-        PacketType::IORd => 3,
-        PacketType::IOWr => 3,
-        PacketType::CfgRd0 => 3,
-        PacketType::CfgWr0 => 3,
-        PacketType::CfgRd1 => 3,
-        PacketType::CfgWr1 => 3,
-        PacketType::Msg => 4,
-        PacketType::MsgD => 4,
-        PacketType::Cpl => 3,
-        PacketType::CplD => 3,
+        PacketType::MRd32
+        | PacketType::MWr32
+        | PacketType::IORd
+        | PacketType::IOWr
+        | PacketType::CfgRd0
+        | PacketType::CfgWr0
+        | PacketType::CfgRd1
+        | PacketType::CfgWr1
+        | PacketType::Cpl
+        | PacketType::CplD => 3,
+        PacketType::MRd64 | PacketType::MWr64 | PacketType::Msg | PacketType::MsgD => 4,
         PacketType::Unlisted => 0,
     }
 }
@@ -91,23 +85,16 @@ pub fn header_dw(t: PacketType) -> usize
 pub fn has_data(t: PacketType) -> bool
     ensures { result ≡ has_data t }
 {
-    match t {
-        PacketType::MRd32 => false,
-        PacketType::MRd64 => false,
-        PacketType::MWr32 => true,
-        PacketType::MWr64 => true,
-        PacketType::IORd => false,
-        PacketType::IOWr => true,
-        PacketType::CfgRd0 => false,
-        PacketType::CfgWr0 => true,
-        PacketType::CfgRd1 => false,
-        PacketType::CfgWr1 => true,
-        PacketType::Msg => false,
-        PacketType::MsgD => true,
-        PacketType::Cpl => false,
-        PacketType::CplD => true,
-        PacketType::Unlisted => false,
-    }
+    matches!(
+        t,
+        PacketType::MWr32
+            | PacketType::MWr64
+            | PacketType::IOWr
+            | PacketType::CfgWr0
+            | PacketType::CfgWr1
+            | PacketType::MsgD
+            | PacketType::CplD
+    )
 }
 
 // Byte 0; a message adds its routing.
@@ -138,20 +125,15 @@ pub fn family_of(t: PacketType) -> Family
     ensures { result ≡ family_of t }
 {
     match t {
-        PacketType::MRd32 => Family::Memory,
-        PacketType::MRd64 => Family::Memory,
-        PacketType::MWr32 => Family::Memory,
-        PacketType::MWr64 => Family::Memory,
-        PacketType::IORd => Family::Io,
-        PacketType::IOWr => Family::Io,
-        PacketType::CfgRd0 => Family::Config,
-        PacketType::CfgWr0 => Family::Config,
-        PacketType::CfgRd1 => Family::Config,
-        PacketType::CfgWr1 => Family::Config,
-        PacketType::Msg => Family::Message,
-        PacketType::MsgD => Family::Message,
-        PacketType::Cpl => Family::Completion,
-        PacketType::CplD => Family::Completion,
+        PacketType::MRd32 | PacketType::MRd64 | PacketType::MWr32 | PacketType::MWr64 => {
+            Family::Memory
+        }
+        PacketType::IORd | PacketType::IOWr => Family::Io,
+        PacketType::CfgRd0 | PacketType::CfgWr0 | PacketType::CfgRd1 | PacketType::CfgWr1 => {
+            Family::Config
+        }
+        PacketType::Msg | PacketType::MsgD => Family::Message,
+        PacketType::Cpl | PacketType::CplD => Family::Completion,
         PacketType::Unlisted => Family::Unlisted,
     }
 }
@@ -163,23 +145,18 @@ const LISTED: u64 = 0x00FF_0001_0000_0435;
 pub fn is_listed(b0: u8) -> bool
     ensures { result ≡ not (is_unlisted (family_of (type_at b0))) }
 {
-    if 128 <= b0 {
-        return false;
-    }
-    (LISTED >> (b0 % 64)) % 2 == 1
+    b0 < 128 && (LISTED >> (b0 % 64)) % 2 == 1
 }
 
 // The family by Type 4:0 alone, for a type in the table.
 pub fn family_by_type(b0: u8) -> Family
     ensures value { result ≡ family_by_type (b0 % 32) }
-    ensures value_2 { is_unlisted (family_of (type_at b0)) ≡ false → result ≡ family_of (type_at b0) }
+    ensures where_listed { is_unlisted (family_of (type_at b0)) ≡ false → result ≡ family_of (type_at b0) }
 {
-    let n = b0 % 32;
-    match n {
+    match b0 % 32 {
         0 => Family::Memory,
         2 => Family::Io,
-        4 => Family::Config,
-        5 => Family::Config,
+        4 | 5 => Family::Config,
         10 => Family::Completion,
         _ => Family::Message,
     }
@@ -188,7 +165,7 @@ pub fn family_by_type(b0: u8) -> Family
 // Fmt bit 0: a header of four doublewords, for a type in the table.
 pub fn is_wide(b0: u8) -> bool
     ensures value { result ≡ bit b0 5 }
-    ensures value_2 { is_unlisted (family_of (type_at b0)) ≡ false → result ≡ eqb (header_dw (type_at b0)) 4 }
+    ensures where_listed { is_unlisted (family_of (type_at b0)) ≡ false → result ≡ eqb (header_dw (type_at b0)) 4 }
 {
     b0 / 32 % 2 == 1
 }
@@ -196,7 +173,7 @@ pub fn is_wide(b0: u8) -> bool
 // Fmt bit 1: data follows, for a type in the table.
 pub fn data_follows(b0: u8) -> bool
     ensures value { result ≡ bit b0 6 }
-    ensures value_2 { is_unlisted (family_of (type_at b0)) ≡ false → result ≡ has_data (type_at b0) }
+    ensures where_listed { is_unlisted (family_of (type_at b0)) ≡ false → result ≡ has_data (type_at b0) }
 {
     b0 / 64 % 2 == 1
 }
@@ -205,26 +182,12 @@ pub fn data_follows(b0: u8) -> bool
 pub fn is_unlisted(f: Family) -> bool
     ensures { result ≡ is_unlisted f }
 {
-    match f {
-        Family::Memory => false,
-        Family::Io => false,
-        Family::Config => false,
-        Family::Message => false,
-        Family::Completion => false,
-        Family::Unlisted => true,
-    }
+    f == Family::Unlisted
 }
 
 // I/O and configuration requests.
 pub fn is_io_or_config(f: Family) -> bool
     ensures { result ≡ is_io_or_config f }
 {
-    match f {
-        Family::Memory => false,
-        Family::Io => true,
-        Family::Config => true,
-        Family::Message => false,
-        Family::Completion => false,
-        Family::Unlisted => false,
-    }
+    matches!(f, Family::Io | Family::Config)
 }

@@ -3,4 +3,4 @@ use Rattle.tlp.proofs.FmtLaws.{data-law}
 use Rattle.tlp.proofs.packet_type.data_follows.Goals as goal
 
 pub returns : goal.returns
-returns c = record { value = refl; value_2 = search data-law }
+returns c = record { value = refl; where_listed = search data-law }

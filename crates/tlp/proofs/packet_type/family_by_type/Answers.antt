@@ -1,20 +1,22 @@
-use Rattle.tlp.proofs.FmtLaws.{type-key, type-rest, type-listed}
+use Rattle.std.proofs.Common.{arith}
+use Rattle.std.proofs.lemmas.Grind.{common_steps}
+use Rattle.tlp.proofs.FmtLaws.{type-listed}
 use Rattle.tlp.proofs.packet_type.family_by_type.Goals as goal
 
-pub returns-in-0 : goal.returns-in-0
-returns-in-0 c = record { value = search type-key; value_2 = search (type-listed, type-key) }
+pub returns-in-0-clause-where_listed : goal.returns-in-0-clause-where_listed
+returns-in-0-clause-where_listed c = type-listed _ _ (grind (arith, common_steps))
 
-pub returns-in-2 : goal.returns-in-2
-returns-in-2 c = record { value = search type-key; value_2 = search (type-listed, type-key) }
+pub returns-in-2-clause-where_listed : goal.returns-in-2-clause-where_listed
+returns-in-2-clause-where_listed c = type-listed _ _ (grind (arith, common_steps))
 
-pub returns-in-4 : goal.returns-in-4
-returns-in-4 c = record { value = search type-key; value_2 = search (type-listed, type-key) }
+pub returns-in-10-clause-where_listed : goal.returns-in-10-clause-where_listed
+returns-in-10-clause-where_listed c = type-listed _ _ (grind (arith, common_steps))
 
-pub returns-in-5 : goal.returns-in-5
-returns-in-5 c = record { value = search type-key; value_2 = search (type-listed, type-key) }
+pub returns-in-4-clause-where_listed : goal.returns-in-4-clause-where_listed
+returns-in-4-clause-where_listed c = type-listed _ _ (grind (arith, common_steps))
 
-pub returns-in-10 : goal.returns-in-10
-returns-in-10 c = record { value = search type-key; value_2 = search (type-listed, type-key) }
+pub returns-in_default-clause-where_listed : goal.returns-in_default-clause-where_listed
+returns-in_default-clause-where_listed c = type-listed _ _ (grind (arith, common_steps))
 
-pub returns-in_default : goal.returns-in_default
-returns-in_default c = record { value = search type-rest depth 14; value_2 = search (type-listed, type-rest) depth 14 }
+pub returns-in_default-2-clause-where_listed : goal.returns-in_default-2-clause-where_listed
+returns-in_default-2-clause-where_listed c = type-listed _ _ (grind (arith, common_steps))
