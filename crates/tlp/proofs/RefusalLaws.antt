@@ -1,5 +1,5 @@
 -- What is answered to the number that rows give.
-use Rattle.std.proofs.Common.{◌≡◌, ℕ, zero, suc, refl, sym, ap, ◌∙◌, arith, Ok, Err}
+use Rattle.std.proofs.Common.{◌≡◌, ℕ, zero, suc, refl, sym, ap, ◌∙◌, arith, Result, Ok, Err}
 use Rattle.std.proofs.Common.{Bool, true, false, List, [], ◌∷◌, eqb}
 use mathlib.Core.Bool.{and-eq-true_iff}
 use borrow.Author.Tests.{eqb-true}
@@ -75,6 +75,10 @@ refused r x n e = by n e
 
 pub accepted : {A : Type 0} (x y : A) (n : ℕ) → 0 ≡ n → x ≡ y → Ok x ≡ answered n y
 accepted x y n e h = rw (← e, h) refl
+
+-- a call's answer handed on, where its rows give the same
+pub through : {A : Type 0} (r : Result A Refusal) (x : A) (n m : ℕ) → r ≡ answered n x → n ≡ m → r ≡ answered m x
+through r x n m p q = p ∙ ap (λ k. answered k x) q
 
 -- the number of an answer is the one that the rows give, where all of theirs are refusals'
 counted : {A : Type 0} (x : A) (n : ℕ) → eqb (number (refusal n)) n ≡ true → number_in (answered n x) ≡ n

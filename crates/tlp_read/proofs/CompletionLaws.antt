@@ -1,11 +1,11 @@
 -- A completion straight from its bytes: a law for each return, and that reading answers the same.
-use Prim.Native.Nat.{ℕ, ◌≤◌, ◌<◌}
+use Prim.Native.Nat.{ℕ, ◌≤◌}
 use mathlib.Core.Path.{◌≡◌, refl}
 use mathlib.Core.Bool.{Bool, true, false, ◌||◌, and-eq-true_iff}
 use mathlib.Core.List.{List}
 use lib.Dec.{eqb, leb}
 use lib.ListN.{length}
-use borrow.Author.Tests.{eqb-true, eq-eqb, ne_eqb, le-ltb, leb-true, le-leb, lt-leb}
+use borrow.Author.Tests.{eqb-true, le-ltb, leb-true}
 use Rattle.bits.specs.Choice.{pick}
 use Rattle.bits.specs.Word.{byte}
 use Rattle.tlp.specs.Rows.{first}
@@ -15,7 +15,6 @@ use Rattle.tlp.specs.Packets.{access_of}
 use Rattle.tlp.specs.Sizes.{data_bytes, bytes_called}
 use Rattle.tlp.specs.Contents.{plain_bad, enables_bad, page_bad}
 use Rattle.tlp.specs.declared.settings.Settings.{Settings}
-use Rattle.tlp.specs.declared.packet.Packet.{Packet}
 use Rattle.tlp.specs.declared.packet_type.PacketType.{PacketType}
 use Rattle.tlp.specs.declared.packet_type.PacketType.TheVariants.{Cpl, CplD}
 use Rattle.tlp.specs.declared.packet_type.Family.TheVariants.{Completion}
@@ -23,36 +22,6 @@ use Rattle.tlp.proofs.FamilyLaws.{completion-types}
 use Rattle.tlp_read.specs.Fields.{route_at, kind_at, packet_at}
 use Rattle.tlp_read.specs.Read.{hint_or_address_type_set, routing_bad, form_bad, read_rows}
 use Rattle.tlp_read.specs.Completions.{has_completion, completion_type, completion_packet, completion_rows}
-
--- ---- byte 0
-
-pub type-data : (b : ℕ) → b ≡ 0x4A → CplD ≡ completion_type b
-type-data b h = rw (eq-eqb b 0x4A h)
-
-pub type-plain : (b : ℕ) → (b ≡ 0x4A → ⊥) → Cpl ≡ completion_type b
-type-plain b h = rw (ne_eqb b 0x4A h)
-
-pub packet-in : (bytes : List ℕ) (b : ℕ) (t : PacketType) (p : Packet) → b ≡ byte bytes 0 → t ≡ completion_type b → p ≡ packet_at t bytes → p ≡ completion_packet bytes
-unfolding completion_packet
-packet-in bytes b t p eb et ep = rw (ep, et, eb)
-
-module _ (bytes : List ℕ) where
-  pub has_short : length bytes < 12 → false ≡ has_completion bytes
-  unfolding has_completion
-  has_short l = rw (lt-leb 12 (length bytes) l)
-
-  module _ (l : 12 ≤ length bytes) (b : ℕ) (e : b ≡ byte bytes 0) where
-    pub has-data : b ≡ 0x4A → true ≡ has_completion bytes
-    unfolding has_completion
-    has-data h = rw (le-leb 12 (length bytes) l, ← e, eq-eqb b 0x4A h)
-
-    pub has-plain : (b ≡ 0x4A → ⊥) → eqb b 0x0A ≡ has_completion bytes
-    unfolding has_completion
-    has-plain h = rw (le-leb 12 (length bytes) l, ← e, ne_eqb b 0x4A h)
-
-pub ruleset has-laws = (has_short, has-data, has-plain)
-
-pub ruleset type-laws = (type-data, type-plain)
 
 -- ---- what reading says of a completion
 

@@ -3,6 +3,7 @@ use Prim.Native.Nat.{ℕ, zero, suc, ◌+◌, ◌*◌, ◌/◌, ◌%◌, ◌≤�
 use native.Mathlib.Nat.{zero-add}
 use native.Mathlib.Omega.{arith}
 use mathlib.Core.Path.{◌≡◌, refl, sym, ap, ◌∙◌}
+use mathlib.Core.Logic.{◌⊎◌, inl, inr}
 use mathlib.Core.Bool.{Bool, true, false, ◌||◌, ◌&&◌, not}
 use mathlib.Core.List.{List, [], ◌∷◌}
 use lib.Dec.{eqb, ltb}
@@ -18,7 +19,6 @@ use Rattle.tlp.specs.Packets.{address_of, access_of}
 use Rattle.tlp.specs.Sizes.{length_at, digest_at, data_bytes, digest_bytes, bytes_called}
 use Rattle.tlp.specs.Contents.{not_plain, plain_bad, enables_bad, page_bad, crosses_page}
 use Rattle.tlp.specs.declared.settings.Settings.{Settings}
-use Rattle.tlp.specs.declared.packet.Packet.{Packet}
 use Rattle.tlp.specs.declared.packet_type.PacketType.{PacketType}
 use Rattle.tlp.specs.declared.packet_type.PacketType.TheVariants.{MRd32, MRd64, MWr32, MWr64, IORd, IOWr, CfgRd0, CfgWr0, CfgRd1, CfgWr1, Msg, MsgD, Cpl, CplD, Unlisted}
 use Rattle.tlp.specs.declared.packet_type.Family.{Family}
@@ -26,11 +26,10 @@ use Rattle.tlp.specs.declared.packet_type.Family.TheVariants.{Memory, Io, Config
 use Rattle.tlp.proofs.FmtLaws.{fmt-law}
 use Rattle.tlp.proofs.FamilyLaws.{memory-types, io-types, config-types}
 use Rattle.tlp.proofs.RowLaws.{here, next, here-not, next-not, here_lt, next-lt, here-ne-call, next-ne-call}
-use Rattle.tlp_read.specs.declared.ReadAnswer.TheVariants.{Accepted, Refused}
 use Rattle.tlp_read.specs.Fields.{traffic_class_at, low_attributes_at, attributes_at, hint_at, address_type_at, first_enables_at, last_enables_at, address_at, routing_at}
 use Rattle.tlp_read.specs.Fields.{request_at, config_at, route_at, kind_at, packet_at}
 use Rattle.tlp_read.specs.Inner.Rows.{Listed, access_read, address_read, not_plain_at, last_given, header_rows}
-use Rattle.tlp_read.specs.Read.{hint_or_address_type_set, routing_bad, form_bad, judge_rows, read_rows, answer_of, read_packet}
+use Rattle.tlp_read.specs.Read.{hint_or_address_type_set, routing_bad, form_bad, judge_rows, read_rows}
 
 -- ---- sizes
 
@@ -208,13 +207,11 @@ module _ (t : PacketType) (f : Family) (e : f ≡ family_of t) where
   pub family-is : (g : Family) → f ≡ g → family_of t ≡ g
   family-is g q = sym e ∙ q
 
-  pub family-io : f ≡ Io → is_io_or_config (family_of t) ≡ true
-  family-io q = rw (← e, q)
+  pub family-register : (f ≡ Io) ⊎ (f ≡ Config) → is_io_or_config (family_of t) ≡ true
+  family-register (inl q) = rw (← e, q)
+  family-register (inr q) = rw (← e, q)
 
-  pub family-config : f ≡ Config → is_io_or_config (family_of t) ≡ true
-  family-config q = rw (← e, q)
-
-  pub family-none : (m n : ℕ) → f ≡ NoFamily → is_unlisted f ≡ false → m ≡ n
+  pub family-none : {A : Type 0} (m n : A) → f ≡ NoFamily → is_unlisted f ≡ false → m ≡ n
   family-none m n q z = let k : true ≡ false = rw q at z in cc
 
 -- ---- the rows before
@@ -293,22 +290,6 @@ module _ (c : Settings) (bytes : List ℕ) (r : Bool) (e : r ≡ settings_listed
   number-later m h l q = next-not _ m 11 r (settings_listed c) e h (next-lt _ m 1 (length bytes) 12 l q)
 
 pub ruleset number-laws = (number-11, number-1, number-later)
-
--- an answer from its number
-refused-is : (n : ℕ) (p : Packet) → (n ≡ 0 → ⊥) → Refused (record { number = n }) ≡ answer_of n p
-refused-is zero p h = absurd (h refl)
-refused-is (suc n) p h = refl
-
-module _ (c : Settings) (bytes : List ℕ) (n : ℕ) (e : n ≡ first (read_rows c bytes)) where
-  pub read-refused : (n ≡ 0 → ⊥) → Refused (record { number = n }) ≡ read_packet c bytes
-  unfolding read_packet
-  read-refused z = rw (← e) (refused-is n _ z)
-
-  pub read-accepted : (p : Packet) (b : ℕ) (t : PacketType) → n ≡ 0 → b ≡ byte bytes 0 → t ≡ type_at b → p ≡ packet_at t bytes → Accepted p ≡ read_packet c bytes
-  unfolding read_packet
-  read-accepted p b t z eb et ep = rw (← e, z, ep, et, eb)
-
-pub ruleset read-laws = (read-refused, read-accepted)
 
 -- what I/O and configuration must not have, of what calls gave
 pub plain-law : (bytes : List ℕ) (n c a d : ℕ) (r : Bool) → n ≡ length_at bytes → c ≡ traffic_class_at bytes → a ≡ low_attributes_at bytes → d ≡ address_type_at bytes → r ≡ not_plain n c a d

@@ -11,7 +11,8 @@ use Rattle.tlp.specs.Sizes.{or_most, length_at, digest_at, data_bytes, digest_by
 use Rattle.tlp.specs.Contents.{not_plain, plain_bad, enables_bad, page_bad}
 use Rattle.tlp.specs.declared.settings.Settings.{Settings}
 use Rattle.tlp_read.specs.Fields.{attributes_at, digest_word, request_at, config_at, message_at, completion_at, implicit_at, message_route_at, route_at, kind_at, packet_at}
-use Rattle.tlp_read.specs.Read.{hint_or_address_type_set, routing_bad, form_bad, read_packet, number_of}
+use Rattle.tlp_read.specs.Read.{hint_or_address_type_set, routing_bad, form_bad, read_packet}
+use Rattle.tlp.specs.Refusals.{refusal, number_in}
 
 abbrev pub settings : Settings
 settings = record { mps = 128; mrrs = 512; rcb = 64 }
@@ -34,10 +35,10 @@ cases =
 
 abbrev pub holds : List Case → Bool
 holds [] = true
-holds (c ∷ cs) = eqb (number_of (read_packet settings c.bytes)) c.number && holds cs
+holds (c ∷ cs) = eqb (number_in (read_packet settings c.bytes)) c.number && holds cs
 
 pub cases-hold : holds cases ≡ true
-unfolding read_packet first settings_listed type_at access_of enables_allowed or_most length_at digest_at data_bytes digest_bytes bytes_called not_plain plain_bad enables_bad page_bad attributes_at digest_word request_at config_at message_at completion_at implicit_at message_route_at route_at kind_at packet_at hint_or_address_type_set routing_bad form_bad
+unfolding read_packet refusal first settings_listed type_at access_of enables_allowed or_most length_at digest_at data_bytes digest_bytes bytes_called not_plain plain_bad enables_bad page_bad attributes_at digest_word request_at config_at message_at completion_at implicit_at message_route_at route_at kind_at packet_at hint_or_address_type_set routing_bad form_bad
 cases-hold = refl
 
 -- "Length 0 means 1024 DW."; Byte Count: "0 meaning 4096"

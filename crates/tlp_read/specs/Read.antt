@@ -1,5 +1,5 @@
 -- Document 01, "Numbers for the packet desk, in order of checking", and what reading answers. All to be believed.
-use Rattle.std.specs.Prelude.{ℕ, zero, suc, ◌*◌, Bool, ◌||◌, ◌&&◌, not, List, [], ◌∷◌, ◌++◌, eqb, ltb, length, take, drop}
+use Rattle.std.specs.Prelude.{ℕ, ◌*◌, Bool, ◌||◌, ◌&&◌, not, List, [], ◌∷◌, ◌++◌, eqb, ltb, length, take, drop, Result}
 use Rattle.bits.specs.Word.{word}
 use Rattle.tlp.specs.Rows.{Row, row, first}
 use Rattle.tlp.specs.Settings.{settings_listed}
@@ -10,8 +10,8 @@ use Rattle.tlp.specs.Contents.{content_rows}
 use Rattle.tlp.specs.declared.settings.Settings.{Settings}
 use Rattle.tlp.specs.declared.packet.Packet.{Packet}
 use Rattle.tlp.specs.declared.packet_type.PacketType.{PacketType}
-use Rattle.tlp_read.specs.declared.ReadAnswer.{ReadAnswer}
-use Rattle.tlp_read.specs.declared.ReadAnswer.TheVariants.{Accepted, Refused}
+use Rattle.tlp.specs.declared.refusal.Refusal.{Refusal}
+use Rattle.tlp.specs.Refusals.{answered}
 use Rattle.tlp_read.specs.Fields.{hint_at, address_type_at, routing_at, packet_at}
 
 -- row 4: "memory request with TH set or AT not 0"
@@ -43,19 +43,9 @@ read_rows settings bytes =
     ++ (row 3 (not (eqb (length bytes) (bytes_called (packet_type_at bytes) bytes)))
     ∷ judge_rows settings.mps (packet_type_at bytes) bytes))
 
--- the packet where no row gave a number
-abbrev pub answer_of : ℕ → Packet → ReadAnswer
-answer_of zero p = Accepted p
-answer_of (suc n) p = Refused (record { number = suc n })
-
 -- what reading bytes gives: the number of the first row that holds, else the packet
-unfoldable pub read_packet : Settings → List ℕ → ReadAnswer
-read_packet settings bytes = answer_of (first (read_rows settings bytes)) (packet_at (packet_type_at bytes) bytes)
-
--- the number of an answer; 0 for accepted
-abbrev pub number_of : ReadAnswer → ℕ
-number_of (Accepted p) = 0
-number_of (Refused r) = r.number
+unfoldable pub read_packet : Settings → List ℕ → Result Packet Refusal
+read_packet settings bytes = answered (first (read_rows settings bytes)) (packet_at (packet_type_at bytes) bytes)
 
 -- the data of a packet in the bytes that hold it: what follows the header, as far as there is any
 unfoldable pub payload_of : Packet → List ℕ → List ℕ

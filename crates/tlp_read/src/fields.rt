@@ -36,16 +36,19 @@ pub fn all_attributes_at(bytes: &[u8]) -> u8
 }
 
 // Attr[2] is reserved in I/O and configuration.
+#[tactic(auto, unfolding(crate::specs::Fields::attributes_at))]
 fn attributes_at(t: PacketType, bytes: &[u8]) -> u8
     ensures { result ≡ attributes_at t bytes.now }
 {
     if is_io_or_config(family_of(t)) {
-        return low_attributes_at(bytes);
+        low_attributes_at(bytes)
+    } else {
+        all_attributes_at(bytes)
     }
-    all_attributes_at(bytes)
 }
 
 // TH.
+#[tactic(auto, unfolding(crate::specs::Fields::hint_at))]
 pub(crate) fn hint_at(bytes: &[u8]) -> bool
     ensures { result ≡ hint_at bytes.now }
 {
@@ -60,6 +63,7 @@ pub(crate) fn address_type_at(bytes: &[u8]) -> u8
 }
 
 // EP.
+#[tactic(auto, unfolding(crate::specs::Fields::poisoned_at))]
 pub fn poisoned_at(bytes: &[u8]) -> bool
     ensures { result ≡ poisoned_at bytes.now }
 {
@@ -71,20 +75,22 @@ fn trailing_word(bytes: &[u8]) -> u32
     ensures { result ≡ word 4 (drop (length bytes.now - 4) bytes.now) 0 }
 {
     if bytes.len() < 4 {
-        return word32(bytes, 0);
+        word32(bytes, 0)
+    } else {
+        word32(&bytes[bytes.len() - 4..], 0)
     }
-    let from = bytes.len() - 4;
-    word32(&bytes[from..], 0)
 }
 
 // The digest, 0 where there is none.
+#[tactic(auto, unfolding(crate::specs::Fields::digest_word))]
 pub fn digest_word(bytes: &[u8]) -> u32
     ensures { result ≡ digest_word bytes.now }
 {
     if digest_at(bytes) {
-        return trailing_word(bytes);
+        trailing_word(bytes)
+    } else {
+        0
     }
-    0
 }
 
 // The requester ID of a request or a message.
@@ -130,14 +136,15 @@ fn address64_at(bytes: &[u8]) -> u64
 
 // The address of a memory request, with one look at the length for all eight bytes.
 pub(crate) fn memory_address(bytes: &[u8]) -> u64
-    requires bytes_value { family_at bytes.now ≡ Family.Memory }
+    requires is_memory { family_at bytes.now ≡ Family.Memory }
     requires header_there { HeaderThere bytes.now }
     ensures { result ≡ address_read bytes.now }
 {
     if is_wide(byte_at(bytes, 0)) {
-        return whole64(bytes, 8) / 4 * 4;
+        whole64(bytes, 8) / 4 * 4
+    } else {
+        address32_at(bytes)
     }
-    address32_at(bytes)
 }
 
 // The ID that a packet goes by: target ID, or the requester ID of a completion.
@@ -178,7 +185,7 @@ fn body_at(bytes: &[u8]) -> u64
 // The same where they are all there, with one look at the length; else 0.
 pub fn whole_body_at(bytes: &[u8]) -> u64
     ensures value { result ≡ whole_word 8 bytes.now 8 }
-    ensures value_2 { 16 ≤ length bytes.now → result ≡ body_at bytes.now }
+    ensures where_there { 16 ≤ length bytes.now → result ≡ body_at bytes.now }
 {
     whole64(bytes, 8)
 }
@@ -205,6 +212,7 @@ pub fn status_at(bytes: &[u8]) -> u8
 }
 
 // BCM.
+#[tactic(auto, unfolding(crate::specs::Fields::byte_count_modified_at))]
 pub fn byte_count_modified_at(bytes: &[u8]) -> bool
     ensures { result ≡ byte_count_modified_at bytes.now }
 {
@@ -218,6 +226,7 @@ fn join_count(b6: u8, b7: u8) -> u32
 }
 
 // A completion's Byte Count.
+#[tactic(auto, unfolding(crate::specs::Fields::byte_count_field_at))]
 pub fn byte_count_field_at(bytes: &[u8]) -> u32
     ensures { result ≡ byte_count_field_at bytes.now }
 {
@@ -240,6 +249,7 @@ pub fn lower_address_field_at(bytes: &[u8]) -> u8
 
 // ---- the packet
 
+#[tactic(auto, unfolding(crate::specs::Fields::request_at))]
 fn request_at(bytes: &[u8]) -> Request
     ensures { result ≡ request_at bytes.now }
 {
@@ -252,6 +262,7 @@ fn request_at(bytes: &[u8]) -> Request
     }
 }
 
+#[tactic(auto, unfolding(crate::specs::Fields::config_at))]
 fn config_at(bytes: &[u8]) -> ConfigRequest
     ensures { result ≡ config_at bytes.now }
 {
@@ -262,6 +273,7 @@ fn config_at(bytes: &[u8]) -> ConfigRequest
     }
 }
 
+#[tactic(auto, unfolding(crate::specs::Fields::message_at))]
 fn message_at(bytes: &[u8]) -> MessageRequest
     ensures { result ≡ message_at bytes.now }
 {
@@ -273,6 +285,7 @@ fn message_at(bytes: &[u8]) -> MessageRequest
     }
 }
 
+#[tactic(auto, unfolding(crate::specs::Fields::completion_at))]
 fn completion_at(bytes: &[u8]) -> CompletionHeader
     ensures { result ≡ completion_at bytes.now }
 {
@@ -286,6 +299,7 @@ fn completion_at(bytes: &[u8]) -> CompletionHeader
     }
 }
 
+#[tactic(auto, unfolding(crate::specs::Fields::implicit_at))]
 fn implicit_at(routing: u8) -> Implicit
     ensures { result ≡ implicit_at routing }
 {
@@ -297,49 +311,44 @@ fn implicit_at(routing: u8) -> Implicit
     }
 }
 
+#[tactic(auto, unfolding(crate::specs::Fields::message_route_at))]
 fn message_route_at(bytes: &[u8]) -> Route
     ensures { result ≡ message_route_at bytes.now }
 {
-    let routing = routing_at(bytes);
-    if routing == 1 {
-        return Route::Address(body_at(bytes));
+    match routing_at(bytes) {
+        1 => Route::Address(body_at(bytes)),
+        2 => Route::Id(route_id_at(bytes)),
+        routing => Route::Implicit(implicit_at(routing)),
     }
-    if routing == 2 {
-        return Route::Id(route_id_at(bytes));
-    }
-    Route::Implicit(implicit_at(routing))
 }
 
+#[tactic(auto, unfolding(crate::specs::Fields::route_at))]
 fn route_at(t: PacketType, bytes: &[u8]) -> Route
     ensures { result ≡ route_at t bytes.now }
 {
     match t {
-        PacketType::MRd32 => Route::Address(address32_at(bytes)),
-        PacketType::MRd64 => Route::Address(address64_at(bytes)),
-        PacketType::MWr32 => Route::Address(address32_at(bytes)),
-        PacketType::MWr64 => Route::Address(address64_at(bytes)),
-        PacketType::IORd => Route::Address(address32_at(bytes)),
-        PacketType::IOWr => Route::Address(address32_at(bytes)),
-        PacketType::CfgRd0 => Route::Id(route_id_at(bytes)),
-        PacketType::CfgWr0 => Route::Id(route_id_at(bytes)),
-        PacketType::CfgRd1 => Route::Id(route_id_at(bytes)),
-        PacketType::CfgWr1 => Route::Id(route_id_at(bytes)),
-        PacketType::Msg => message_route_at(bytes),
-        PacketType::MsgD => message_route_at(bytes),
-        PacketType::Cpl => Route::Id(route_id_at(bytes)),
-        PacketType::CplD => Route::Id(route_id_at(bytes)),
+        PacketType::MRd64 | PacketType::MWr64 => Route::Address(address64_at(bytes)),
+        PacketType::MRd32 | PacketType::MWr32 | PacketType::IORd | PacketType::IOWr => {
+            Route::Address(address32_at(bytes))
+        }
+        PacketType::CfgRd0
+        | PacketType::CfgWr0
+        | PacketType::CfgRd1
+        | PacketType::CfgWr1
+        | PacketType::Cpl
+        | PacketType::CplD => Route::Id(route_id_at(bytes)),
+        PacketType::Msg | PacketType::MsgD => message_route_at(bytes),
         PacketType::Unlisted => Route::Implicit(Implicit::Root),
     }
 }
 
+#[tactic(auto, unfolding(crate::specs::Fields::kind_at))]
 fn kind_at(t: PacketType, bytes: &[u8]) -> Kind
     ensures { result ≡ kind_at t bytes.now }
 {
     match t {
-        PacketType::MRd32 => Kind::MemoryRead(request_at(bytes)),
-        PacketType::MRd64 => Kind::MemoryRead(request_at(bytes)),
-        PacketType::MWr32 => Kind::MemoryWrite(request_at(bytes)),
-        PacketType::MWr64 => Kind::MemoryWrite(request_at(bytes)),
+        PacketType::MRd32 | PacketType::MRd64 => Kind::MemoryRead(request_at(bytes)),
+        PacketType::MWr32 | PacketType::MWr64 => Kind::MemoryWrite(request_at(bytes)),
         PacketType::IORd => Kind::IoRead(request_at(bytes)),
         PacketType::IOWr => Kind::IoWrite(request_at(bytes)),
         PacketType::CfgRd0 => Kind::ConfigRead0(config_at(bytes)),
@@ -351,16 +360,16 @@ fn kind_at(t: PacketType, bytes: &[u8]) -> Kind
             message: message_at(bytes),
             length: length_at(bytes),
         },
-        PacketType::Cpl => Kind::Completion(completion_at(bytes)),
+        PacketType::Cpl | PacketType::Unlisted => Kind::Completion(completion_at(bytes)),
         PacketType::CplD => Kind::CompletionData {
             completion: completion_at(bytes),
             length: length_at(bytes),
         },
-        PacketType::Unlisted => Kind::Completion(completion_at(bytes)),
     }
 }
 
 // The packet in bytes of type t.
+#[tactic(auto, unfolding(crate::specs::Fields::packet_at))]
 pub(crate) fn packet_at(t: PacketType, bytes: &[u8]) -> Packet
     ensures { result ≡ packet_at t bytes.now }
 {

@@ -2,6 +2,7 @@
 // byte 0.
 ghost use Rattle.std.specs.Prelude.{◌≡◌, true, false, ◌+◌, ◌*◌, ◌≤◌, length};
 ghost use Rattle.tlp.specs.Rows.{first};
+ghost use Rattle.tlp.specs.Refusals.{checked};
 ghost use Rattle.tlp.specs.PacketTypes.{packet_type_at, header_dw, is_unlisted, is_io_or_config};
 ghost use Rattle.tlp.specs.Sizes.{digest_at, digest_bytes};
 ghost use Rattle.tlp_read.specs.Inner.Rows.{family_at, Listed, HeaderThere, access_read, data_read, most_data, hint_or_address_type_at, not_plain_at, last_given, wide_form_bad, judged_rows, header_rows};
@@ -14,6 +15,7 @@ use bits::word::{byte_at, word32};
 use byte_enables::{Access, enables_allowed};
 use tlp::content::{crosses_page, not_plain};
 use tlp::packet_type::{Family, data_follows, family_by_type, is_listed, is_wide};
+use tlp::refusal::Refusal;
 use tlp::size::{digest_at, digest_bytes, length_at};
 
 // The size of the header of a type in the table.
@@ -21,10 +23,7 @@ fn header_size(bytes: &[u8]) -> usize
     requires { Listed bytes.now }
     ensures { (result ≡ 4 * header_dw (packet_type_at bytes.now)) × (result ≤ 16) }
 {
-    if is_wide(byte_at(bytes, 0)) {
-        return 16;
-    }
-    12
+    if is_wide(byte_at(bytes, 0)) { 16 } else { 12 }
 }
 
 // The bytes of data that the Length field calls for.
@@ -32,11 +31,11 @@ fn data_size(bytes: &[u8]) -> usize
     requires { Listed bytes.now }
     ensures { (result ≡ data_read bytes.now) × (result ≤ most_data) }
 {
-    let n = length_at(bytes);
     if data_follows(byte_at(bytes, 0)) {
-        return 4 * n as usize;
+        4 * length_at(bytes) as usize
+    } else {
+        0
     }
-    0
 }
 
 // Header and data, with the digest where TD is set.
@@ -52,14 +51,11 @@ pub(crate) fn size_with_digest(header: usize, payload: usize, bytes: &[u8]) -> u
 fn hint_or_address_type_at(bytes: &[u8]) -> bool
     ensures { result ≡ hint_or_address_type_at bytes.now }
 {
-    if hint_at(bytes) {
-        return true;
-    }
-    address_type_at(bytes) != 0
+    hint_at(bytes) || address_type_at(bytes) != 0
 }
 
 fn memory_access(bytes: &[u8]) -> Access
-    requires bytes_value { family_at bytes.now ≡ Family.Memory }
+    requires family { family_at bytes.now ≡ Family.Memory }
     requires header_there { HeaderThere bytes.now }
     ensures { result ≡ access_read bytes.now }
 {
@@ -76,35 +72,32 @@ fn wide_form_bad(bytes: &[u8]) -> bool
     requires { Listed bytes.now }
     ensures { result ≡ wide_form_bad bytes.now }
 {
-    if is_wide(byte_at(bytes, 0)) {
-        return word32(bytes, 8) == 0;
-    }
-    false
+    is_wide(byte_at(bytes, 0)) && word32(bytes, 8) == 0
 }
 
-fn memory_number(mps: u32, payload: usize, bytes: &[u8]) -> u32
+fn memory_fault(mps: u32, payload: usize, bytes: &[u8]) -> Result<(), Refusal>
     requires payload_value { payload ≡ data_read bytes.now }
-    requires bytes_value { family_at bytes.now ≡ Family.Memory }
+    requires family { family_at bytes.now ≡ Family.Memory }
     requires header_there { HeaderThere bytes.now }
-    ensures { result ≡ first (judged_rows mps bytes.now) }
+    ensures { result ≡ checked (first (judged_rows mps bytes.now)) }
 {
     if hint_or_address_type_at(bytes) {
-        return 4;
+        return Err(Refusal::HintOrAddressType);
     }
     if (mps as usize) < payload {
-        return 5;
+        return Err(Refusal::OverMaxPayload);
     }
     let a = memory_access(bytes);
     if !enables_allowed(a) {
-        return 7;
+        return Err(Refusal::BadEnables);
     }
     if crosses_page(a) {
-        return 8;
+        return Err(Refusal::Crosses4K);
     }
     if wide_form_bad(bytes) {
-        return 10;
+        return Err(Refusal::Needless64BitForm);
     }
-    0
+    Ok(())
 }
 
 // What I/O and configuration must not have.
@@ -127,82 +120,81 @@ fn last_given(bytes: &[u8]) -> bool
 }
 
 // I/O and configuration.
-fn register_number(mps: u32, payload: usize, bytes: &[u8]) -> u32
+fn register_fault(mps: u32, payload: usize, bytes: &[u8]) -> Result<(), Refusal>
     requires payload_value { payload ≡ data_read bytes.now }
-    requires bytes_value { is_io_or_config (family_at bytes.now) ≡ true }
-    ensures { result ≡ first (judged_rows mps bytes.now) }
+    requires family { is_io_or_config (family_at bytes.now) ≡ true }
+    ensures { result ≡ checked (first (judged_rows mps bytes.now)) }
 {
     if (mps as usize) < payload {
-        return 5;
+        return Err(Refusal::OverMaxPayload);
     }
     if not_plain_at(bytes) {
-        return 6;
+        return Err(Refusal::BadField);
     }
     if last_given(bytes) {
-        return 7;
+        return Err(Refusal::BadEnables);
     }
-    0
+    Ok(())
 }
 
-fn message_number(mps: u32, payload: usize, bytes: &[u8]) -> u32
+fn message_fault(mps: u32, payload: usize, bytes: &[u8]) -> Result<(), Refusal>
     requires payload_value { payload ≡ data_read bytes.now }
-    requires bytes_value { family_at bytes.now ≡ Family.Message }
-    ensures { result ≡ first (judged_rows mps bytes.now) }
+    requires family { family_at bytes.now ≡ Family.Message }
+    ensures { result ≡ checked (first (judged_rows mps bytes.now)) }
 {
     if (mps as usize) < payload {
-        return 5;
+        return Err(Refusal::OverMaxPayload);
     }
     if 5 < routing_at(bytes) {
-        return 9;
+        return Err(Refusal::BadRouting);
     }
-    0
+    Ok(())
 }
 
-fn completion_number(mps: u32, payload: usize, bytes: &[u8]) -> u32
+fn completion_fault(mps: u32, payload: usize, bytes: &[u8]) -> Result<(), Refusal>
     requires payload_value { payload ≡ data_read bytes.now }
-    requires bytes_value { family_at bytes.now ≡ Family.Completion }
-    ensures { result ≡ first (judged_rows mps bytes.now) }
+    requires family { family_at bytes.now ≡ Family.Completion }
+    ensures { result ≡ checked (first (judged_rows mps bytes.now)) }
 {
     if (mps as usize) < payload {
-        return 5;
+        return Err(Refusal::OverMaxPayload);
     }
-    0
+    Ok(())
 }
 
-// The first of the rows 4 to 10 that holds; 0 where none does.
-fn judge_number(mps: u32, payload: usize, f: Family, bytes: &[u8]) -> u32
+// The first of the rows 4 to 10 that holds.
+fn judge_fault(mps: u32, payload: usize, f: Family, bytes: &[u8]) -> Result<(), Refusal>
     requires payload_value { payload ≡ data_read bytes.now }
-    requires f_value { f ≡ family_at bytes.now }
-    requires f_value_2 { is_unlisted f ≡ false }
+    requires family { f ≡ family_at bytes.now }
+    requires listed { is_unlisted f ≡ false }
     requires header_there { HeaderThere bytes.now }
-    ensures { result ≡ first (judged_rows mps bytes.now) }
+    ensures { result ≡ checked (first (judged_rows mps bytes.now)) }
 {
     match f {
-        Family::Memory => memory_number(mps, payload, bytes),
-        Family::Io => register_number(mps, payload, bytes),
-        Family::Config => register_number(mps, payload, bytes),
-        Family::Message => message_number(mps, payload, bytes),
-        Family::Completion => completion_number(mps, payload, bytes),
-        Family::Unlisted => 0,
+        Family::Memory => memory_fault(mps, payload, bytes),
+        Family::Io | Family::Config => register_fault(mps, payload, bytes),
+        Family::Message => message_fault(mps, payload, bytes),
+        Family::Completion => completion_fault(mps, payload, bytes),
+        Family::Unlisted => Ok(()),
     }
 }
 
-// The first that holds of the rows after the one for fewer than 12 bytes; 0 where none does.
-pub(crate) fn header_number(mps: u32, bytes: &[u8]) -> u32
+// The first that holds of the rows after the one for fewer than 12 bytes.
+pub(crate) fn header_fault(mps: u32, bytes: &[u8]) -> Result<(), Refusal>
     requires { 12 ≤ length bytes.now }
-    ensures { result ≡ first (header_rows mps bytes.now) }
+    ensures { result ≡ checked (first (header_rows mps bytes.now)) }
 {
     let b0 = byte_at(bytes, 0);
     if !is_listed(b0) {
-        return 2;
+        return Err(Refusal::UnknownKind);
     }
     let header = header_size(bytes);
     if bytes.len() < header {
-        return 1;
+        return Err(Refusal::HeaderIncomplete);
     }
     let payload = data_size(bytes);
     if bytes.len() != size_with_digest(header, payload, bytes) {
-        return 3;
+        return Err(Refusal::SizeMismatch);
     }
-    judge_number(mps, payload, family_by_type(b0), bytes)
+    judge_fault(mps, payload, family_by_type(b0), bytes)
 }

@@ -5,5 +5,5 @@ use Rattle.tlp_read.proofs.rows.data_size.Goals as goal
 pub returns-then-data_follows : goal.returns-then-data_follows
 returns-then-data_follows c = (search data-laws, search rules)
 
-pub returns : goal.returns
-returns c = (search data-laws, search rules)
+pub returns-else-data_follows : goal.returns-else-data_follows
+returns-else-data_follows c = (search data-laws, search rules)

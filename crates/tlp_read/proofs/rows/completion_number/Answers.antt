@@ -1,9 +1,0 @@
-use Rattle.tlp_read.proofs.ReadReturns.{completion-rows}
-use Rattle.tlp.proofs.RowLaws.{rows}
-use Rattle.tlp_read.proofs.rows.completion_number.Goals as goal
-
-pub returns-then-mps-payload : goal.returns-then-mps-payload
-returns-then-mps-payload c = search (completion-rows, rows) depth 12 fits 4000
-
-pub returns : goal.returns
-returns c = search (completion-rows, rows) depth 12 fits 4000
