@@ -54,50 +54,12 @@ fn hint_or_address_type_at(bytes: &[u8]) -> bool
     hint_at(bytes) || address_type_at(bytes) != 0
 }
 
-fn memory_access(bytes: &[u8]) -> Access
-    requires family { family_at bytes.now ≡ Family.Memory }
-    requires header_there { HeaderThere bytes.now }
-    ensures { result ≡ access_read bytes.now }
-{
-    Access {
-        address: memory_address(bytes),
-        length: length_at(bytes),
-        first: first_enables_at(bytes),
-        last: last_enables_at(bytes),
-    }
-}
-
 // MRd64 or MWr64 with the top 32 address bits 0.
 fn wide_form_bad(bytes: &[u8]) -> bool
     requires { Listed bytes.now }
     ensures { result ≡ wide_form_bad bytes.now }
 {
     is_wide(byte_at(bytes, 0)) && word32(bytes, 8) == 0
-}
-
-fn memory_fault(mps: u32, payload: usize, bytes: &[u8]) -> Result<(), Refusal>
-    requires payload_value { payload ≡ data_read bytes.now }
-    requires family { family_at bytes.now ≡ Family.Memory }
-    requires header_there { HeaderThere bytes.now }
-    ensures { result ≡ checked (first (judged_rows mps bytes.now)) }
-{
-    if hint_or_address_type_at(bytes) {
-        return Err(Refusal::HintOrAddressType);
-    }
-    if (mps as usize) < payload {
-        return Err(Refusal::OverMaxPayload);
-    }
-    let a = memory_access(bytes);
-    if !enables_allowed(a) {
-        return Err(Refusal::BadEnables);
-    }
-    if crosses_page(a) {
-        return Err(Refusal::Crosses4K);
-    }
-    if wide_form_bad(bytes) {
-        return Err(Refusal::Needless64BitForm);
-    }
-    Ok(())
 }
 
 // What I/O and configuration must not have.
@@ -119,63 +81,105 @@ fn last_given(bytes: &[u8]) -> bool
     last_enables_at(bytes) != 0
 }
 
-// I/O and configuration.
-fn register_fault(mps: u32, payload: usize, bytes: &[u8]) -> Result<(), Refusal>
-    requires payload_value { payload ≡ data_read bytes.now }
-    requires family { is_io_or_config (family_at bytes.now) ≡ true }
-    ensures { result ≡ checked (first (judged_rows mps bytes.now)) }
-{
-    if (mps as usize) < payload {
-        return Err(Refusal::OverMaxPayload);
-    }
-    if not_plain_at(bytes) {
-        return Err(Refusal::BadField);
-    }
-    if last_given(bytes) {
-        return Err(Refusal::BadEnables);
-    }
-    Ok(())
+// A packet whose header is there whole, with the data that this calls for and the largest that may be.
+#[derive(Clone, Copy)]
+struct Whole<'a> {
+    mps: u32,
+    payload: usize,
+    bytes: &'a [u8],
+    ghost payload_is: { payload ≡ data_read bytes.now },
+    ghost header_there: { HeaderThere bytes.now },
 }
 
-fn message_fault(mps: u32, payload: usize, bytes: &[u8]) -> Result<(), Refusal>
-    requires payload_value { payload ≡ data_read bytes.now }
-    requires family { family_at bytes.now ≡ Family.Message }
-    ensures { result ≡ checked (first (judged_rows mps bytes.now)) }
-{
-    if (mps as usize) < payload {
-        return Err(Refusal::OverMaxPayload);
+impl<'a> Whole<'a> {
+    fn memory_access(self) -> Access
+        requires { family_at self.bytes.now ≡ Family.Memory }
+        ensures { result ≡ access_read self.entry.bytes.now }
+    {
+        Access {
+            address: memory_address(self.bytes),
+            length: length_at(self.bytes),
+            first: first_enables_at(self.bytes),
+            last: last_enables_at(self.bytes),
+        }
     }
-    if 5 < routing_at(bytes) {
-        return Err(Refusal::BadRouting);
-    }
-    Ok(())
-}
 
-fn completion_fault(mps: u32, payload: usize, bytes: &[u8]) -> Result<(), Refusal>
-    requires payload_value { payload ≡ data_read bytes.now }
-    requires family { family_at bytes.now ≡ Family.Completion }
-    ensures { result ≡ checked (first (judged_rows mps bytes.now)) }
-{
-    if (mps as usize) < payload {
-        return Err(Refusal::OverMaxPayload);
+    fn memory_fault(self) -> Result<(), Refusal>
+        requires { family_at self.bytes.now ≡ Family.Memory }
+        ensures { result ≡ checked (first (judged_rows self.entry.mps self.entry.bytes.now)) }
+    {
+        if hint_or_address_type_at(self.bytes) {
+            return Err(Refusal::HintOrAddressType);
+        }
+        if (self.mps as usize) < self.payload {
+            return Err(Refusal::OverMaxPayload);
+        }
+        let a = self.memory_access();
+        if !enables_allowed(a) {
+            return Err(Refusal::BadEnables);
+        }
+        if crosses_page(a) {
+            return Err(Refusal::Crosses4K);
+        }
+        if wide_form_bad(self.bytes) {
+            return Err(Refusal::Needless64BitForm);
+        }
+        Ok(())
     }
-    Ok(())
-}
 
-// The first of the rows 4 to 10 that holds.
-fn judge_fault(mps: u32, payload: usize, f: Family, bytes: &[u8]) -> Result<(), Refusal>
-    requires payload_value { payload ≡ data_read bytes.now }
-    requires family { f ≡ family_at bytes.now }
-    requires listed { is_unlisted f ≡ false }
-    requires header_there { HeaderThere bytes.now }
-    ensures { result ≡ checked (first (judged_rows mps bytes.now)) }
-{
-    match f {
-        Family::Memory => memory_fault(mps, payload, bytes),
-        Family::Io | Family::Config => register_fault(mps, payload, bytes),
-        Family::Message => message_fault(mps, payload, bytes),
-        Family::Completion => completion_fault(mps, payload, bytes),
-        Family::Unlisted => Ok(()),
+    // I/O and configuration.
+    fn register_fault(self) -> Result<(), Refusal>
+        requires { is_io_or_config (family_at self.bytes.now) ≡ true }
+        ensures { result ≡ checked (first (judged_rows self.entry.mps self.entry.bytes.now)) }
+    {
+        if (self.mps as usize) < self.payload {
+            return Err(Refusal::OverMaxPayload);
+        }
+        if not_plain_at(self.bytes) {
+            return Err(Refusal::BadField);
+        }
+        if last_given(self.bytes) {
+            return Err(Refusal::BadEnables);
+        }
+        Ok(())
+    }
+
+    fn message_fault(self) -> Result<(), Refusal>
+        requires { family_at self.bytes.now ≡ Family.Message }
+        ensures { result ≡ checked (first (judged_rows self.entry.mps self.entry.bytes.now)) }
+    {
+        if (self.mps as usize) < self.payload {
+            return Err(Refusal::OverMaxPayload);
+        }
+        if 5 < routing_at(self.bytes) {
+            return Err(Refusal::BadRouting);
+        }
+        Ok(())
+    }
+
+    fn completion_fault(self) -> Result<(), Refusal>
+        requires { family_at self.bytes.now ≡ Family.Completion }
+        ensures { result ≡ checked (first (judged_rows self.entry.mps self.entry.bytes.now)) }
+    {
+        if (self.mps as usize) < self.payload {
+            return Err(Refusal::OverMaxPayload);
+        }
+        Ok(())
+    }
+
+    // The first of the rows 4 to 10 that holds.
+    fn fault(self, f: Family) -> Result<(), Refusal>
+        requires family { f ≡ family_at self.bytes.now }
+        requires listed { is_unlisted f ≡ false }
+        ensures { result ≡ checked (first (judged_rows self.entry.mps self.entry.bytes.now)) }
+    {
+        match f {
+            Family::Memory => self.memory_fault(),
+            Family::Io | Family::Config => self.register_fault(),
+            Family::Message => self.message_fault(),
+            Family::Completion => self.completion_fault(),
+            Family::Unlisted => Ok(()),
+        }
     }
 }
 
@@ -196,5 +200,10 @@ pub(crate) fn header_fault(mps: u32, bytes: &[u8]) -> Result<(), Refusal>
     if bytes.len() != size_with_digest(header, payload, bytes) {
         return Err(Refusal::SizeMismatch);
     }
-    judge_fault(mps, payload, family_by_type(b0), bytes)
+    let packet = Whole {
+        mps,
+        payload,
+        bytes,
+    };
+    packet.fault(family_by_type(b0))
 }

@@ -18,8 +18,8 @@ data_size-payload-requires c = search later-listed
 pub returns-then-bytes-size_with_digest : goal.returns-then-bytes-size_with_digest
 returns-then-bytes-size_with_digest c = search (later-laws, refused, through)
 
-pub judge_fault-requires : goal.judge_fault-requires
-judge_fault-requires c = search (later-family, later-known, later-room, rules)
+pub fault-requires : goal.fault-requires
+fault-requires c = search (later-family, later-known, later-room, rules)
 
 pub returns : goal.returns
 returns c = search (later-laws, refused, through)

@@ -1,6 +1,6 @@
 use Rattle.tlp_read.proofs.ReadReturns.{family-is, family-register, family-none}
 use borrow.Author.Rules.{rules}
-use Rattle.tlp_read.proofs.rows.judge_fault.Goals as goal
+use Rattle.tlp_read.proofs.rows.Whole.fault.Goals as goal
 
 pub memory_fault-requires : goal.memory_fault-requires
 memory_fault-requires c = search (family-is, rules)

@@ -1,13 +1,13 @@
 use Rattle.tlp_read.proofs.ReadReturns.{memory-rows, memory-rows-of, memory-listed}
 use Rattle.tlp.proofs.RowLaws.{rows}
 use Rattle.tlp.proofs.RefusalLaws.{refused, accepted}
-use Rattle.tlp_read.proofs.rows.memory_fault.Goals as goal
+use Rattle.tlp_read.proofs.rows.Whole.memory_fault.Goals as goal
 
 pub returns-then-hint_or_address_type_at : goal.returns-then-hint_or_address_type_at
 returns-then-hint_or_address_type_at c = search (memory-rows, rows, refused) depth 12 fits 4000
 
-pub returns-then-mps-payload : goal.returns-then-mps-payload
-returns-then-mps-payload c = search (memory-rows, rows, refused) depth 12 fits 4000
+pub returns-then-self : goal.returns-then-self
+returns-then-self c = search (memory-rows, rows, refused) depth 12 fits 4000
 
 pub returns-then-not-enables_allowed : goal.returns-then-not-enables_allowed
 returns-then-not-enables_allowed c = search (memory-rows-of, rows, refused) depth 12 fits 4000

@@ -1,10 +1,10 @@
 use Rattle.tlp_read.proofs.ReadReturns.{register-rows}
 use Rattle.tlp.proofs.RowLaws.{rows}
 use Rattle.tlp.proofs.RefusalLaws.{refused, accepted}
-use Rattle.tlp_read.proofs.rows.register_fault.Goals as goal
+use Rattle.tlp_read.proofs.rows.Whole.register_fault.Goals as goal
 
-pub returns-then-mps-payload : goal.returns-then-mps-payload
-returns-then-mps-payload c = search (register-rows, rows, refused) depth 12 fits 4000
+pub returns-then-self : goal.returns-then-self
+returns-then-self c = search (register-rows, rows, refused) depth 12 fits 4000
 
 pub returns-then-not_plain_at : goal.returns-then-not_plain_at
 returns-then-not_plain_at c = search (register-rows, rows, refused) depth 12 fits 4000
