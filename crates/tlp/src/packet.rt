@@ -89,7 +89,7 @@ pub struct Packet {
     pub traffic_class: u8,
     pub attributes: u8,
     pub poisoned: bool,
-    // TD; the digest is 0 where it is clear.
+    // TD; the digest is 0 where it is clear. No Option: a digest without TD must be one, the writer refuses it by 6.
     pub has_digest: bool,
     pub digest: u32,
     pub route: Route,

@@ -22,7 +22,7 @@ pub enum PacketType {
     MsgD,
     Cpl,
     CplD,
-    // Byte 0 is not in the table.
+    // Byte 0 is not in the table. A row of its own, no Option: the tables here and in specs/ are total over it.
     Unlisted,
 }
 
@@ -37,7 +37,7 @@ pub enum Family {
     Unlisted,
 }
 
-// The type that byte 0 says.
+// The type that byte 0 says. No From: it would be this match, its contract in a ghost member.
 #[tactic(auto, unfolding(crate::specs::PacketTypes::type_at))]
 pub fn type_at(b0: u8) -> PacketType
     ensures { result ≡ type_at b0 }
