@@ -1,17 +1,11 @@
-use Rattle.capture.proofs.PacketLineLaws.{packet-line-laws}
+use Rattle.capture.proofs.PacketLineLaws.{packet_line_laws}
 use Rattle.capture.proofs.packet_line.packet_line.Goals as goal
 
-pub returns-then-not-front : goal.returns-then-not-front
-returns-then-not-front c = record { answer = search packet-line-laws depth 12 fits 4000; output = search packet-line-laws depth 12 fits 4000 }
+pub returns-then-out-min : goal.returns-then-out-min
+returns-then-out-min c = record { answer = search packet_line_laws depth 12 fits 4000; output = search packet_line_laws depth 12 fits 4000 }
 
-pub returns-then-digits-front : goal.returns-then-digits-front
-returns-then-digits-front c = record { answer = search packet-line-laws depth 12 fits 4000; output = search packet-line-laws depth 12 fits 4000 }
+pub returns-in-None : goal.returns-in-None
+returns-in-None c = record { answer = search packet_line_laws depth 12 fits 4000; output = search packet_line_laws depth 12 fits 4000 }
 
-pub returns-then-out-lesser : goal.returns-then-out-lesser
-returns-then-out-lesser c = record { answer = search packet-line-laws depth 12 fits 4000; output = search packet-line-laws depth 12 fits 4000 }
-
-pub returns-in-Bad : goal.returns-in-Bad
-returns-in-Bad c = record { answer = search packet-line-laws depth 12 fits 4000; output = search packet-line-laws depth 12 fits 4000 }
-
-pub returns-in-Bytes : goal.returns-in-Bytes
-returns-in-Bytes c = record { answer = search packet-line-laws depth 12 fits 4000; output = search packet-line-laws depth 12 fits 4000 }
+pub returns-in-Some-hex_front : goal.returns-in-Some-hex_front
+returns-in-Some-hex_front c = record { answer = search packet_line_laws depth 12 fits 4000; output = search packet_line_laws depth 12 fits 4000 }
