@@ -4,7 +4,7 @@ use mathlib.Core.Logic.{⊎_elim}
 use mathlib.Core.Path.{◌≡◌, refl, sym, ◌∙◌, ap}
 use mathlib.Core.Bool.{Bool, true, false}
 use mathlib.Core.List.{List}
-use mathlib.Core.Option.{Option, some, none}
+use Rattle.std.specs.Prelude.{Option, Some, None}
 use native.Mathlib.Nat.{sub-zero}
 use native.Mathlib.Omega.{arith}
 use lib.ListN.{length, take, drop, length-take}
@@ -49,8 +49,8 @@ module _ (settings : Settings) (most : ℕ) (text space : List ℕ) (line : Pack
       by-room p false q = let z : ◌≡◌ {A = ℕ} 0 1 = cc in absurd (omega arith)
 
       by : (o : Option PacketText) → BadLine ≡ entry_answer most o space → Bad ≡ packet_read settings most o space
-      by none q = refl
-      by (some p) q = by-room p (fits 0 (take most p.bytes) space) q
+      by None q = refl
+      by (Some p) q = by-room p (fits 0 (take most p.bytes) space) q
 
   pub line-unlaid : (n : ℕ) → line ≡ Unlaid n → Refused n ≡ packet_read settings most (packet_line text) space
   line-unlaid n u = by (packet_line text) (sym u ∙ e)
@@ -60,14 +60,14 @@ module _ (settings : Settings) (most : ℕ) (text space : List ℕ) (line : Pack
       by-room p false q = let m : n ≡ 12 = cc in rw m
 
       by : (o : Option PacketText) → Unlaid n ≡ entry_answer most o space → Refused n ≡ packet_read settings most o space
-      by none q = let z : ◌≡◌ {A = ℕ} 0 1 = cc in absurd (omega arith)
-      by (some p) q = by-room p (fits 0 (take most p.bytes) space) q
+      by None q = let z : ◌≡◌ {A = ℕ} 0 1 = cc in absurd (omega arith)
+      by (Some p) q = by-room p (fits 0 (take most p.bytes) space) q
 
   module _ (entry : Entry) (u : line ≡ Packet entry) (space' part : List ℕ) (o : space' ≡ packet_over most (packet_line text) space) (d : part ≡ take (entry.size - 0) (drop 0 space'))
       (a : ReadAnswer) (k : a ≡ read_packet settings part) where
     part_by : (x : Option PacketText) → packet_line text ≡ x → Packet entry ≡ entry_answer most x space → Read a ≡ packet_read settings most x space
-    part_by none q w = let z : ◌≡◌ {A = ℕ} 0 1 = cc in absurd (omega arith)
-    part_by (some p) q w = by (fits 0 (take most p.bytes) space) w
+    part_by None q w = let z : ◌≡◌ {A = ℕ} 0 1 = cc in absurd (omega arith)
+    part_by (Some p) q w = by (fits 0 (take most p.bytes) space) w
       where
         by : (t : Bool) → Packet entry ≡ Entered p t → Read a ≡ Answered p t
         by true w =
@@ -125,22 +125,22 @@ module _ (most : ℕ) (p : PacketText) (space : List ℕ) (h : length p.bytes �
       ⊎_elim (λ (k : length p.bytes < most). ap (take n) (standing-all (omega arith))) (λ (k : most ≤ length p.bytes). standing-part n l k)
       (lt-or-le (length p.bytes) most)
 
-  read_is : (settings : Settings) → packet_read settings most (some p) space ≡ Read (read_packet settings (standing most p space))
+  read_is : (settings : Settings) → packet_read settings most (Some p) space ≡ Read (read_packet settings (standing most p space))
   read_is settings = rw (le-leb (0 + length front) (length space) front_fits)
 
   -- ---- laid whole, it is read as itself
 
-  pub all_read : (settings : Settings) → length p.bytes ≤ most → packet_read settings most (some p) space ≡ text_read settings (some p)
+  pub all_read : (settings : Settings) → length p.bytes ≤ most → packet_read settings most (Some p) space ≡ text_read settings (Some p)
   all_read settings k = read_is settings ∙ ap (λ (packet : List ℕ). Read (read_packet settings packet)) (standing-all k)
 
   -- ---- from 16 bytes on, what is printed and counted is the same
 
   module _ (settings : Settings) (l : printed_front ≤ most) where
-    packet-output : output_line (packet_read settings most (some p) space) ≡ output_line (text_read settings (some p))
+    packet-output : output_line (packet_read settings most (Some p) space) ≡ output_line (text_read settings (Some p))
     unfolding output_line
     packet-output = ap output_line (read_is settings) ∙ front-output settings p.bytes (standing most p space) standing-length (standing-front printed_front l)
 
-    packet-refused : refused_count (packet_read settings most (some p) space) ≡ refused_count (text_read settings (some p))
+    packet-refused : refused_count (packet_read settings most (Some p) space) ≡ refused_count (text_read settings (Some p))
     packet-refused = ap refused_count (read_is settings) ∙ front-refused settings p.bytes (standing most p space) standing-length (standing-front printed_front l)
 
 module _ (settings : Settings) (most : ℕ) (l : printed_front ≤ most) (text space : List ℕ) (room : length text ≤ 2 * length space) where
@@ -148,12 +148,12 @@ module _ (settings : Settings) (most : ℕ) (l : printed_front ≤ most) (text s
   front-printed = by (packet_line text) refl
     where
       by : (o : Option PacketText) → packet_line text ≡ o → output_line (packet_read settings most o space) ≡ output_line (text_read settings o)
-      by none q = refl
-      by (some p) q = packet-output most p space (omega (arith, packet-bytes text p q, room)) settings l
+      by None q = refl
+      by (Some p) q = packet-output most p space (omega (arith, packet-bytes text p q, room)) settings l
 
   pub front-counted : refused_count (packet_read settings most (packet_line text) space) ≡ refused_count (text_read settings (packet_line text))
   front-counted = by (packet_line text) refl
     where
       by : (o : Option PacketText) → packet_line text ≡ o → refused_count (packet_read settings most o space) ≡ refused_count (text_read settings o)
-      by none q = refl
-      by (some p) q = packet-refused most p space (omega (arith, packet-bytes text p q, room)) settings l
+      by None q = refl
+      by (Some p) q = packet-refused most p space (omega (arith, packet-bytes text p q, room)) settings l

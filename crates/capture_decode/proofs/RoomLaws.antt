@@ -3,7 +3,7 @@ use Prim.Native.Nat.{ℕ, suc, ◌*◌, ◌≤◌}
 use mathlib.Core.Path.{◌≡◌, refl}
 use mathlib.Core.Bool.{Bool, true, false}
 use mathlib.Core.List.{List}
-use mathlib.Core.Option.{Option, some, none}
+use Rattle.std.specs.Prelude.{Option, Some, None}
 use native.Mathlib.Omega.{arith}
 use lib.ListN.{length}
 use Rattle.bits.specs.Choice.{pick}
@@ -23,8 +23,8 @@ bad-room n = omega (arith, code-length 13 (omega arith))
 
 text-room : (settings : Settings) (text : List ℕ) (o : Option PacketText) → packet_line text ≡ o → length (output_line (text_read settings o)) ≤ printed_each * suc (length text)
 unfolding output_line
-text-room settings text (some p) e = omega (arith, packet-least text p e, read-line-most settings p.bytes)
-text-room settings text none e = bad-room (length text)
+text-room settings text (Some p) e = omega (arith, packet-least text p e, read-line-most settings p.bytes)
+text-room settings text None e = bad-room (length text)
 
 -- eight bytes for each byte of a line, its newline too
 pub output-room : (settings : Settings) (text : List ℕ) → length (output_line (line_read settings text)) ≤ printed_each * suc (length text)

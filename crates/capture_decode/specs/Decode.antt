@@ -1,7 +1,6 @@
 -- A capture's bytes to the bytes of its decoding: document 01, Captures. What a reader must believe: decode_text, and
 -- with it the whole file.
-use Rattle.std.specs.Prelude.{ℕ, suc, ◌+◌, List, [], ◌∷◌, ◌++◌}
-use Rattle.std.proofs.Math.Option.{Option, some, none}
+use Rattle.std.specs.Prelude.{ℕ, suc, ◌+◌, List, [], ◌∷◌, ◌++◌, Option, Some, None}
 use Rattle.bits.specs.Choice.{pick}
 use Rattle.tlp.specs.declared.settings.Settings.{Settings}
 use Rattle.tlp_read.specs.declared.ReadAnswer.{ReadAnswer}
@@ -13,21 +12,20 @@ use Rattle.capture_lines.specs.Lines.{complete_lines, unended, over_long}
 use Rattle.capture.specs.Headers.{header_line}
 use Rattle.capture.specs.PacketLines.{PacketText, packet_line}
 use Rattle.capture_print.specs.Outputs.{code_line, output_line, totals_line}
-use Rattle.capture.specs.declared.header.HeaderLine.{HeaderLine}
-use Rattle.capture.specs.declared.header.HeaderLine.TheVariants.{Good, Bad as BadHeader}
+use Rattle.capture.specs.declared.header.Header.{Header}
 
 -- what the packet of a line gives: "any other bad line .. gives `code=13`"
 abbrev pub text_read : Settings → Option PacketText → LineAnswer
-text_read settings none = Bad
-text_read settings (some p) = Read (read_packet settings p.bytes)
+text_read settings None = Bad
+text_read settings (Some p) = Read (read_packet settings p.bytes)
 
 -- what a complete line after the first gives
 unfoldable pub line_read : Settings → List ℕ → LineAnswer
 line_read settings text = pick (over_long text) Bad (text_read settings (packet_line text))
 
 -- "A bad .. first line": over-long, or none of a header's form
-unfoldable pub header_read : List ℕ → HeaderLine
-header_read text = pick (over_long text) BadHeader (header_line text)
+unfoldable pub header_read : List ℕ → Option Header
+header_read text = pick (over_long text) None (header_line text)
 
 -- what lines print, how many they are, and how many of them are refused
 pub record Decoding : Type 0 where
@@ -68,9 +66,9 @@ lines_decoded settings (text ∷ texts) d = line_step (line_read settings text) 
 abbrev pub with_totals : Decoding → List ℕ
 with_totals d = d.output ++ totals_line d.lines d.refused
 
-abbrev pub header_decoded : HeaderLine → List (List ℕ) → List ℕ → List ℕ
-header_decoded BadHeader texts tail = code_line 11
-header_decoded (Good h) texts tail = with_totals (lines_decoded h.settings texts (tail_decoded tail))
+abbrev pub header_decoded : Option Header → List (List ℕ) → List ℕ → List ℕ
+header_decoded None texts tail = code_line 11
+header_decoded (Some h) texts tail = with_totals (lines_decoded h.settings texts (tail_decoded tail))
 
 -- "A bad, missing or unended first line gives only `code=11`"
 unfoldable pub text_decoded : List (List ℕ) → List ℕ → List ℕ
