@@ -22,8 +22,9 @@ use Rattle.capture_decode.specs.Printed.{printed_each}
 use Rattle.capture_lines.specs.declared.NextLine.{NextLine}
 use Rattle.capture_lines.specs.declared.NextLine.TheVariants.{Ended, OverLong, Unended}
 use Rattle.capture.specs.declared.header.Header.{Header}
-use Rattle.capture.specs.declared.header.HeaderLine.{HeaderLine}
-use Rattle.capture.specs.declared.header.HeaderLine.TheVariants.{Good, Bad as BadHeader}
+use Rattle.capture.specs.declared.header.Header.{Header}
+use Rattle.std.specs.Prelude.{Option}
+use Rattle.std.specs.Prelude.{Some, None}
 use Rattle.capture_print.proofs.PrintLaws.{code-11, code-13}
 use Rattle.capture_lines.proofs.LineLaws.{unended-le, unended-all}
 use Rattle.capture_lines.proofs.NextLaws.{Complete, unended-line, ended-line, over-long-line}
@@ -126,29 +127,29 @@ number-printed p size n k w out e = rw e
 
 -- ---- step_header
 
-module _ (bytes out : List ℕ) (end : ℕ) (text : List ℕ) (t : text ≡ take (end - 1 - 0) (drop 0 bytes)) (v : HeaderLine) (e : v ≡ header_line text) (r : Step) (out1 : List ℕ) where
+module _ (bytes out : List ℕ) (end : ℕ) (text : List ℕ) (t : text ≡ take (end - 1 - 0) (drop 0 bytes)) (v : Option Header) (e : v ≡ header_line text) (r : Step) (out1 : List ℕ) where
   abbrev headed : Stepping
   headed = step_header (header_line (take (end - 1 - 0) (drop 0 bytes))) (complete_lines (drop end bytes)) (unended (drop end bytes))
 
-  headed-by : (x : HeaderLine) → v ≡ x → headed ≡ step_header x (complete_lines (drop end bytes)) (unended (drop end bytes))
+  headed-by : (x : Option Header) → v ≡ x → headed ≡ step_header x (complete_lines (drop end bytes)) (unended (drop end bytes))
   headed-by x u = rw (← t, ← e, u)
 
-  module _ (u : v ≡ BadHeader) (one : 1 ≤ end) (inside : end ≤ length bytes) (room : printed_each * length bytes ≤ length out) where
+  module _ (u : v ≡ None) (one : 1 ≤ end) (inside : end ≤ length bytes) (room : printed_each * length bytes ≤ length out) where
     h : printed_each ≤ length out
     h = omega (arith, one, inside, room)
 
     pub header-bad : r ≡ record { progress = Refused; used = length bytes; written = after 0 (code_line 11) out; lines = 0; refused = 0 } → r ≡ step_in headed (length bytes)
-    header-bad d = number_step_lem Refused (length bytes) 11 0 out h code-11 r d ∙ ap (λ (q : Stepping). step_in q (length bytes)) (sym (headed-by BadHeader u))
+    header-bad d = number_step_lem Refused (length bytes) 11 0 out h code-11 r d ∙ ap (λ (q : Stepping). step_in q (length bytes)) (sym (headed-by None u))
 
     pub header-bad-output : out1 ≡ laid 0 (code_line 11) out → out1 ≡ put 0 headed.decoding.output out
-    header-bad-output d = number-output Refused (length bytes) 11 0 out h code-11 out1 d ∙ ap (λ (q : Stepping). put 0 q.decoding.output out) (sym (headed-by BadHeader u))
+    header-bad-output d = number-output Refused (length bytes) 11 0 out h code-11 out1 d ∙ ap (λ (q : Stepping). put 0 q.decoding.output out) (sym (headed-by None u))
 
-  module _ (x : Header) (u : v ≡ Good x) where
+  module _ (x : Header) (u : v ≡ Some x) where
     pub header-good : r ≡ step_in (step_lines x.settings (complete_lines (drop end bytes)) (unended (drop end bytes))) (length bytes) → r ≡ step_in headed (length bytes)
-    header-good d = d ∙ ap (λ (q : Stepping). step_in q (length bytes)) (sym (headed-by (Good x) u))
+    header-good d = d ∙ ap (λ (q : Stepping). step_in q (length bytes)) (sym (headed-by (Some x) u))
 
     pub header-good-output : out1 ≡ put 0 (step_lines x.settings (complete_lines (drop end bytes)) (unended (drop end bytes))).decoding.output out → out1 ≡ put 0 headed.decoding.output out
-    header-good-output d = d ∙ ap (λ (q : Stepping). put 0 q.decoding.output out) (sym (headed-by (Good x) u))
+    header-good-output d = d ∙ ap (λ (q : Stepping). put 0 q.decoding.output out) (sym (headed-by (Some x) u))
 
 pub ruleset step-header-laws = (header-bad, header-bad-output, header-good, header-good-output)
 

@@ -15,7 +15,7 @@ ghost use Rattle.capture_blocks.specs.Inner.Steps.{lines_step, header_step, firs
 ghost use Rattle.capture_blocks.specs.Inner.Steps.{silent_step, number_step};
 
 use crate::lines::decode_lines;
-use capture::header::{HeaderLine, header_line};
+use capture::header::header_line;
 use capture_decode::PRINTED_EACH;
 use capture_lines::{NextLine, TEXT_MOST, next_line};
 use capture_print::{put_code, put_totals};
@@ -126,13 +126,9 @@ fn step_header(bytes: &[u8], end: usize, space: &mut [u8], out: &mut [u8]) -> St
     ensures answer { result ≡ step_in (header_step bytes.now end) (length bytes.now) }
     ensures output { out.new ≡ printed_step (header_step bytes.now end) out.old }
 {
-    let line = header_line(part(bytes, 0, end - 1));
-    match line {
-        HeaderLine::Bad => print_number(Progress::Refused, bytes, 11, 0, out),
-        HeaderLine::Good(header) => {
-            let settings = header.settings;
-            step_lines(settings, bytes, end, space, out)
-        }
+    match header_line(part(bytes, 0, end - 1)) {
+        None => print_number(Progress::Refused, bytes, 11, 0, out),
+        Some(header) => step_lines(header.settings, bytes, end, space, out),
     }
 }
 
