@@ -1,9 +1,11 @@
 -- Document 01, Captures: "`at= dir= len= tlp=` lines"; "at is up to 4294967295; dir is rx or tx; len is the byte count,
 -- from 0; hex is lower case". What a reader must believe: packet_line, or, of which Grammar says that it is the same,
 -- packet_text there; then entry_answer and packet_over, what packet_line answers and leaves.
-use Rattle.std.specs.Prelude.{ℕ, List, ◌==◌, length, take, drop, Option, Some, None, option_map, option_and_then}
+use Rattle.std.specs.Prelude.{ℕ, List, ◌==◌, length, take, drop, Option, Some, None, option_map, option_and_then, Result, Ok, Err}
 use Rattle.std.specs.Option.{option_or}
 use Rattle.bits.specs.Choice.{pick}
+use Rattle.tlp.specs.declared.refusal.Refusal.{Refusal}
+use Rattle.tlp.specs.declared.refusal.Refusal.TheVariants.{OutputTooShort, BadLine}
 use Rattle.text.specs.Laid.{fits, laid}
 use Rattle.text.specs.Hex.{bytes_spelled}
 use Rattle.text.specs.Fields.{decimal_after, key_after}
@@ -12,9 +14,8 @@ use Rattle.capture.specs.Keys.{at_key, rx_key, tx_key, length_key, packet_key}
 use Rattle.capture.specs.Headers.{most32}
 use Rattle.capture.specs.declared.packet_line.Direction.{Direction}
 use Rattle.capture.specs.declared.packet_line.Direction.TheVariants.{Rx, Tx}
+use Rattle.capture.specs.declared.packet_line.Entry.{Entry}
 use Rattle.capture.specs.declared.packet_line.Front.{Front}
-use Rattle.capture.specs.declared.packet_line.PacketLine.{PacketLine}
-use Rattle.capture.specs.declared.packet_line.PacketLine.TheVariants.{Packet, Bad, Refused}
 
 -- the direction whose key stands from index at on, rx or tx, and the index after it
 unfoldable pub direction_after : List ℕ → ℕ → Option (Direction × ℕ)
@@ -54,14 +55,14 @@ text_of text f = option_and_then (counted f) (bytes_spelled (drop f.digits text)
 unfoldable pub packet_line : List ℕ → Option PacketText
 packet_line text = option_and_then (text_of text) (front_of text)
 
--- a bad line is bad whatever the room; else 12 where the packet's first most bytes do not fit; the size is of all its
--- bytes
-abbrev pub entry_answer : ℕ → Option PacketText → List ℕ → PacketLine
-entry_answer most None out = Bad
+-- a bad line is bad whatever the room; else the output is too short where the packet's first most bytes do not fit; the
+-- size is of all its bytes
+abbrev pub entry_answer : ℕ → Option PacketText → List ℕ → Result Entry Refusal
+entry_answer most None out = Err BadLine
 entry_answer most (Some p) out =
     pick (fits 0 (take most p.bytes) out)
-    (Packet (record { at = p.at; direction = p.direction; size = length p.bytes }))
-    (Refused 12)
+    (Ok (record { at = p.at; direction = p.direction; size = length p.bytes }))
+    (Err OutputTooShort)
 
 -- the packet's first most bytes over the front of an output, which stays as it was with another answer
 abbrev pub packet_over : ℕ → Option PacketText → List ℕ → List ℕ

@@ -2,12 +2,13 @@
 ghost use Rattle.std.specs.Prelude.{◌≡◌};
 ghost use Rattle.text.specs.Hex.{bytes_spelled};
 ghost use Rattle.capture.specs.PacketLines.{direction_after, front_of, packet_line, entry_answer, packet_over};
-ghost use Rattle.capture.specs.Inner.Unlaid.{unlaid_answer};
+ghost use Rattle.capture.specs.Inner.Unlaid.{unlaid};
 
 use text::fields::{decimal_after, key_after};
 use text::hex::{hex_front, hex_only};
 use text::number::MOST_32;
 use text::words::part;
+use tlp::refusal::Refusal;
 
 #[derive(Clone, Copy)]
 pub enum Direction {
@@ -21,15 +22,6 @@ pub struct Entry {
     pub at: u32,
     pub direction: Direction,
     pub size: usize,
-}
-
-#[derive(Clone, Copy)]
-pub enum PacketLine {
-    Packet(Entry),
-    // The line is bad.
-    Bad,
-    // 12: there is no room for its packet.
-    Refused(u32),
 }
 
 // What stands before the packet's digits, the first of which is at index digits.
@@ -68,39 +60,35 @@ fn front_of(text: &[u8]) -> Option<Front>
 
 // Of digits that spell a packet for which there is no room, unless they are bad.
 #[tactic(auto, unfolding(text::specs::Hex::bytes_spelled))]
-fn unlaid_answer(digits: &[u8]) -> PacketLine
-    ensures { result ≡ unlaid_answer (bytes_spelled digits.now) }
+fn unlaid(digits: &[u8]) -> Refusal
+    ensures { result ≡ unlaid (bytes_spelled digits.now) }
 {
     if digits.len() % 2 != 0 || !hex_only(digits) {
-        PacketLine::Bad
+        Refusal::BadLine
     } else {
-        PacketLine::Refused(12)
+        Refusal::OutputTooShort
     }
 }
 
 // Reads a packet line: its packet's first most bytes go over the front of out, which stays as it was with another
-// answer.
+// answer. A bad line is refused as such, a good one for whose packet there is no room as output that is too short.
 #[tactic(auto, using(crate::proofs::PacketLineLaws::packet_line_laws), unfolding(crate::specs::PacketLines::packet_line))]
-pub fn packet_line(text: &[u8], most: usize, out: &mut [u8]) -> PacketLine
+pub fn packet_line(text: &[u8], most: usize, out: &mut [u8]) -> Result<Entry, Refusal>
     ensures answer { result ≡ entry_answer most (packet_line text.now) out.old }
     ensures output { out.new ≡ packet_over most (packet_line text.now) out.old }
 {
-    let Some(front) = front_of(text) else {
-        return PacketLine::Bad;
-    };
+    let front = front_of(text).ok_or(Refusal::BadLine)?;
     let digits = part(text, front.digits, text.len());
     if digits.len() / 2 != front.size as usize {
-        return PacketLine::Bad;
+        return Err(Refusal::BadLine);
     }
     if out.len() < most.min(digits.len() / 2) {
-        return unlaid_answer(digits);
+        return Err(unlaid(digits));
     }
-    match hex_front(digits, most, out) {
-        None => PacketLine::Bad,
-        Some(size) => PacketLine::Packet(Entry {
-            at: front.at,
-            direction: front.direction,
-            size,
-        }),
-    }
+    let size = hex_front(digits, most, out).ok_or(Refusal::BadLine)?;
+    Ok(Entry {
+        at: front.at,
+        direction: front.direction,
+        size,
+    })
 }

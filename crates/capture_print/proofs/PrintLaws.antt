@@ -1,17 +1,12 @@
 -- What is printed: one law for each return, and how long a line of output is.
-use Prim.Native.Nat.{ℕ, zero, suc, ◌+◌, ◌/◌, ◌≤◌, zero-le}
-use mathlib.Core.Path.{◌≡◌, refl, ap, ◌∙◌}
-use mathlib.Core.Bool.{Bool, true, false, ◌&&◌}
-use mathlib.Core.List.{List, [], ◌∷◌, ◌++◌, append_assoc}
+use Prim.Native.Nat.{ℕ, suc, ◌+◌, ◌/◌, ◌≤◌}
+use mathlib.Core.Path.{◌≡◌, ap, ◌∙◌}
+use mathlib.Core.List.{List, [], ◌++◌, append_assoc}
 use native.Mathlib.Omega.{arith}
-use lib.Dec.{leb}
 use lib.ListN.{length, length-append, length-take, take, drop}
 use lib.Seq.{take-append_seam}
-use borrow.Author.Tests.{leb-true, lt-ltb, le-ltb}
-use Rattle.bits.specs.Choice.{pick}
-use Rattle.bits.specs.Word.{byte}
+use borrow.Author.Tests.{lt-ltb, le-ltb}
 use Rattle.text.specs.Number.{count_to, digit_count}
-use Rattle.text.proofs.Order.{and_left, and_right}
 use Rattle.text.proofs.NumberLaws.{length_digits}
 use Rattle.text.proofs.RoundTrips.{count-le}
 use Rattle.bits.specs.Put.{put}
@@ -19,23 +14,18 @@ use Rattle.text.specs.Laid.{laid, after}
 use Rattle.text.specs.Decimal.{decimal_text}
 use Rattle.text.proofs.LaidLaws.{after-fits, laid-fits, text-most}
 use Rattle.byte_enables.specs.declared.Access.{Access}
-use Rattle.tlp.specs.Rows.{Row, first}
-use Rattle.tlp.specs.PacketTypes.{type_at}
 use Rattle.tlp.specs.Packets.{type_of, access_of}
-use Rattle.tlp.specs.declared.settings.Settings.{Settings}
 use Rattle.tlp.specs.declared.packet.Packet.{Packet}
+use Rattle.std.specs.Prelude.{Result, Ok, Err}
+use Rattle.tlp.specs.Refusals.{number}
 use Rattle.tlp.specs.declared.refusal.Refusal.{Refusal}
+use Rattle.tlp.specs.declared.refusal.Refusal.TheVariants.{HeaderIncomplete, UnknownKind, SizeMismatch, HintOrAddressType, OverMaxPayload, BadField, BadEnables, Crosses4K, BadRouting, Needless64BitForm, BadSetting, OutputTooShort, BadLine}
+use Rattle.tlp.specs.declared.refusal.Refusal.TheVariants.{TagOverLimit, TagOpen, OverMaxReadRequest, BadWindow, WindowOverlap, TagNotOpen, NotACompletion, UnexpectedCompletion, ClassOrAttributesDiffer, BadCompletionStatus, NotAContinuation, BadStore}
 use Rattle.tlp.specs.declared.packet_type.PacketType.{PacketType}
 use Rattle.tlp.specs.declared.packet_type.PacketType.TheVariants.{MRd32, MRd64, MWr32, MWr64, IORd, IOWr, CfgRd0, CfgWr0, CfgRd1, CfgWr1, Msg, MsgD, Cpl, CplD, Unlisted}
-use Rattle.tlp_read.specs.declared.ReadAnswer.{ReadAnswer}
-use Rattle.tlp_read.specs.declared.ReadAnswer.TheVariants.{Accepted, Refused}
-use Rattle.tlp_read.specs.Fields.{packet_at}
-use Rattle.tlp_read.specs.Read.{read_rows, answer_of, read_packet}
 use Rattle.capture_print.specs.Words.{code_key, accepted_key, tag_key, dw_key, lines_key, refused_key, newline, kind_word}
-use Rattle.capture_print.specs.Outputs.{tag_in, code_line, packet_output, read_output, output_line, totals_line}
+use Rattle.capture_print.specs.Outputs.{tag_in, code_line, packet_output, output_line, totals_line}
 use Rattle.capture_print.specs.Inner.Texts.{output_most, number_most}
-use Rattle.capture_print.specs.declared.LineAnswer.{LineAnswer}
-use Rattle.capture_print.specs.declared.LineAnswer.TheVariants.{Read, Bad, Refused as Unlaid}
 
 -- ---- how long a line is at most
 
@@ -136,86 +126,40 @@ module _ (start : List ℕ) (s : start ≡ []) where
   unfolding totals_line
   totals-made lines refused a b c d e f g h i j = rw (j, i, h, g, f, s) (simp append_assoc)
 
--- ---- what the reader answered
-
-module _ (answer : ReadAnswer) (at : ℕ) (out : List ℕ) where
-  module _ (p : Packet) (e : answer ≡ Accepted p) where
-    pub accepted-after : (r : ℕ) → r ≡ after at (packet_output p) out → r ≡ after at (read_output answer) out
-    unfolding read_output
-    accepted-after r q = rw e q
-
-    pub accepted-laid : (r : List ℕ) → r ≡ laid at (packet_output p) out → r ≡ laid at (read_output answer) out
-    unfolding read_output
-    accepted-laid r q = rw e q
-
-  module _ (f : Refusal) (e : answer ≡ Refused f) where
-    pub refused-after : (r : ℕ) → r ≡ after at (code_line f.number) out → r ≡ after at (read_output answer) out
-    unfolding read_output
-    refused-after r q = rw e q
-
-    pub refused-laid : (r : List ℕ) → r ≡ laid at (code_line f.number) out → r ≡ laid at (read_output answer) out
-    unfolding read_output
-    refused-laid r q = rw e q
-
-pub ruleset read-laws = (accepted-after, accepted-laid, refused-after, refused-laid)
-
--- ---- an answer's line
-
-module _ (answer : LineAnswer) (at : ℕ) (out : List ℕ) where
-  module _ (a : ReadAnswer) (e : answer ≡ Read a) where
-    pub read-after : (r : ℕ) → r ≡ after at (read_output a) out → r ≡ after at (output_line answer) out
-    unfolding output_line
-    read-after r q = rw e q
-
-    pub read-laid : (r : List ℕ) → r ≡ laid at (read_output a) out → r ≡ laid at (output_line answer) out
-    unfolding output_line
-    read-laid r q = rw e q
-
-  module _ (e : answer ≡ Bad) where
-    pub bad-after : (r : ℕ) → r ≡ after at (code_line 13) out → r ≡ after at (output_line answer) out
-    unfolding output_line
-    bad-after r q = rw e q
-
-    pub bad-laid : (r : List ℕ) → r ≡ laid at (code_line 13) out → r ≡ laid at (output_line answer) out
-    unfolding output_line
-    bad-laid r q = rw e q
-
-  module _ (n : ℕ) (e : answer ≡ Unlaid n) where
-    pub unlaid-after : (r : ℕ) → r ≡ after at (code_line n) out → r ≡ after at (output_line answer) out
-    unfolding output_line
-    unlaid-after r q = rw e q
-
-    pub unlaid-laid : (r : List ℕ) → r ≡ laid at (code_line n) out → r ≡ laid at (output_line answer) out
-    unfolding output_line
-    unlaid-laid r q = rw e q
-
-pub ruleset answer-laws = (read-after, read-laid, bad-after, bad-laid, unlaid-after, unlaid-laid)
-
 -- ---- room for what a line gives
 
--- no row has a number above m
-abbrev within : ℕ → List Row → Bool
-within m [] = true
-within m (r ∷ rs) = leb r.number m && within m rs
+number-two : (r : Refusal) → number r ≤ 99
+number-two HeaderIncomplete = omega arith
+number-two UnknownKind = omega arith
+number-two SizeMismatch = omega arith
+number-two HintOrAddressType = omega arith
+number-two OverMaxPayload = omega arith
+number-two BadField = omega arith
+number-two BadEnables = omega arith
+number-two Crosses4K = omega arith
+number-two BadRouting = omega arith
+number-two Needless64BitForm = omega arith
+number-two BadSetting = omega arith
+number-two OutputTooShort = omega arith
+number-two BadLine = omega arith
+number-two TagOverLimit = omega arith
+number-two TagOpen = omega arith
+number-two OverMaxReadRequest = omega arith
+number-two BadWindow = omega arith
+number-two WindowOverlap = omega arith
+number-two TagNotOpen = omega arith
+number-two NotACompletion = omega arith
+number-two UnexpectedCompletion = omega arith
+number-two ClassOrAttributesDiffer = omega arith
+number-two BadCompletionStatus = omega arith
+number-two NotAContinuation = omega arith
+number-two BadStore = omega arith
 
-within_by : (m n later : ℕ) (t : Bool) → n ≤ m → later ≤ m → pick t n later ≤ m
-within_by m n later true h k = h
-within_by m n later false h k = k
+pub output-most : (answer : Result Packet Refusal) → length (output_line answer) ≤ 156
+unfolding output_line
+output-most (Ok p) = packet-most p
+output-most (Err r) = omega (arith, code-length (number r) (number-two r))
 
-first-most : (m : ℕ) (rs : List Row) → within m rs ≡ true → first rs ≤ m
-unfolding first
-first-most m [] h = zero-le
-first-most m (r ∷ rs) h =
-    within_by m r.number (first rs) r.holds (leb-true r.number m (and_left _ _ h)) (first-most m rs (and_right (leb r.number m) _ h))
-
-pub read-most : (c : Settings) (packet : List ℕ) → first (read_rows c packet) ≤ 11
-read-most c packet = first-most 11 (read_rows c packet) refl
-
-answer-most : (n : ℕ) (p : Packet) → n ≤ 11 → length (read_output (answer_of n p)) ≤ 156
-unfolding read_output
-answer-most zero p h = packet-most p
-answer-most (suc n) p h = omega (arith, code-length (suc n) (omega arith))
-
-pub read-line-most : (c : Settings) (packet : List ℕ) → length (read_output (read_packet c packet)) ≤ 156
-unfolding read_packet
-read-line-most c packet = answer-most (first (read_rows c packet)) (packet_at (type_at (byte packet 0)) packet) (read-most c packet)
+pub code-most : (r : Refusal) → length (output_line (Err r)) ≤ 8
+unfolding output_line
+code-most r = code-length (number r) (number-two r)

@@ -6,23 +6,12 @@ mod line;
 ghost use Rattle.std.specs.Prelude.{◌≡◌, ◌≤◌, length};
 ghost use Rattle.text.specs.Laid.{laid, after};
 ghost use Rattle.capture_print.specs.Words.{kind_word};
-ghost use Rattle.capture_print.specs.Outputs.{tag_in, code_line, packet_output, read_output, output_line, totals_line};
+ghost use Rattle.capture_print.specs.Outputs.{tag_in, code_line, packet_output, output_line, totals_line};
 
 use crate::line::Line;
 use tlp::packet::{Kind, Packet, access_of, type_of};
 use tlp::packet_type::PacketType;
-use tlp_read::ReadAnswer;
-
-// What a line after the first gives.
-#[derive(Clone, Copy)]
-pub enum LineAnswer {
-    // What the reader answers for its packet.
-    Read(ReadAnswer),
-    // The line is bad.
-    Bad,
-    // The number of a packet for which there is no room.
-    Refused(u32),
-}
+use tlp::refusal::Refusal;
 
 fn tag_in(kind: Kind) -> u8
     ensures { result ≡ tag_in kind }
@@ -89,25 +78,16 @@ fn put_packet(packet: Packet, at: usize, out: &mut [u8]) -> usize
     line.put(at, out)
 }
 
-fn put_read(answer: ReadAnswer, at: usize, out: &mut [u8]) -> usize
-    ensures answer { result ≡ after at (read_output answer) out.old }
-    ensures output { out.new ≡ laid at (read_output answer) out.old }
-{
-    match answer {
-        ReadAnswer::Accepted(p) => put_packet(p, at, out),
-        ReadAnswer::Refused(r) => put_code(r.number, at, out),
-    }
-}
-
-// Prints what a line gave, as put_code does its line.
-pub fn put_answer(answer: LineAnswer, at: usize, out: &mut [u8]) -> usize
+// Prints what a line after the first gave, as put_code does its line: the packet that was read, or the refusal of the
+// packet or of the line.
+#[tactic(auto, unfolding(crate::specs::Outputs::output_line))]
+pub fn put_answer(answer: Result<Packet, Refusal>, at: usize, out: &mut [u8]) -> usize
     ensures answer { result ≡ after at (output_line answer) out.old }
     ensures output { out.new ≡ laid at (output_line answer) out.old }
 {
     match answer {
-        LineAnswer::Read(a) => put_read(a, at, out),
-        LineAnswer::Bad => put_code(13, at, out),
-        LineAnswer::Refused(number) => put_code(number, at, out),
+        Ok(packet) => put_packet(packet, at, out),
+        Err(refusal) => put_code(refusal.number(), at, out),
     }
 }
 
