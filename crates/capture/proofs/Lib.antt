@@ -1,4 +1,4 @@
-pub mod HeaderLaws
 pub mod PacketLineLaws
+pub mod LineParts
 pub mod PacketBytes
 pub mod Grammar

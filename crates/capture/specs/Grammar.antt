@@ -1,8 +1,7 @@
 -- The lines of a capture as text, without parsing: a line is good exactly when it is the text of its values. What a
 -- reader must believe: header_text and packet_text; that header_line and packet_line say the same are the theorems
 -- HeaderExact and PacketExact, proved in proofs/Grammar.
-use Rattle.std.specs.Prelude.{ℕ, ◌^◌, ◌≤◌, ◌<◌, ◌≡◌, refl, true, ◌↔◌, List, [], ◌∷◌, ◌++◌, length, get_or}
-use Rattle.std.proofs.Math.Option.{some}
+use Rattle.std.specs.Prelude.{ℕ, ◌^◌, ◌≤◌, ◌<◌, ◌≡◌, refl, true, ◌↔◌, List, [], ◌∷◌, ◌++◌, length, get_or, Some}
 use Rattle.text.specs.Digit.{hex_digit}
 use Rattle.text.specs.Number.{digits, count_to}
 use Rattle.text.specs.Decimal.{decimal_text}
@@ -13,7 +12,6 @@ use Rattle.capture.specs.Keys.{mps_key, mrrs_key, rcb_key, requester_key, at_key
 use Rattle.capture.specs.Headers.{most32, header_line}
 use Rattle.capture.specs.PacketLines.{PacketText, packet_line}
 use Rattle.capture.specs.declared.header.Header.{Header}
-use Rattle.capture.specs.declared.header.HeaderLine.TheVariants.{Good}
 use Rattle.capture.specs.declared.packet_line.Direction.{Direction}
 use Rattle.capture.specs.declared.packet_line.Direction.TheVariants.{Rx, Tx}
 
@@ -31,7 +29,7 @@ header_text h =
 -- "MPS and MRRS each one of 128, 256, 512, 1024, 2048, 4096; RCB 64 or 128"
 abbrev pub HeaderExact : Type 0
 HeaderExact = (text : List ℕ) (h : Header)
-    → (header_line text ≡ Good h) ↔ ((settings_listed h.settings ≡ true) × (h.requester < 2 ^ 16) × (text ≡ header_text h))
+    → (header_line text ≡ Some h) ↔ ((settings_listed h.settings ≡ true) × (h.requester < 2 ^ 16) × (text ≡ header_text h))
 
 -- ---- the lines after it
 
@@ -54,7 +52,7 @@ EachByte bytes = (i : ℕ) → i < length bytes → get_or bytes i 0 < 256
 -- "at is up to 4294967295"; len has the same bound
 abbrev pub PacketExact : Type 0
 PacketExact = (text : List ℕ) (p : PacketText)
-    → (packet_line text ≡ some p)
+    → (packet_line text ≡ Some p)
     ↔ ((p.at ≤ most32) × EachByte p.bytes × (length p.bytes ≤ most32) × (text ≡ packet_text p))
 
 -- ---- document 01's case

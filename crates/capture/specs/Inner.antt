@@ -1,2 +1,1 @@
-pub mod HeaderFields
 pub mod Unlaid

@@ -13,7 +13,7 @@ use Rattle.capture_lines.specs.Lines.{text_most, over_long}
 use Rattle.capture_print.specs.Outputs.{totals_line}
 use Rattle.capture_print.specs.declared.LineAnswer.TheVariants.{Bad}
 use Rattle.capture_decode.specs.Decode.{Decoding, line_read, header_read, refused_count, line_step, no_lines, tail_decoded, lines_decoded}
-use Rattle.capture.specs.declared.header.HeaderLine.TheVariants.{Bad as BadHeader}
+use Rattle.std.specs.Prelude.{None}
 
 -- ---- one decoding before another
 
@@ -58,7 +58,7 @@ module _ (t : List ℕ) (h : over_long t ≡ true) where
   unfolding line_read
   over-long-line c text = rw (over-long-more text)
 
-  pub over-long-header : (text : List ℕ) → header_read (t ++ text) ≡ BadHeader
+  pub over-long-header : (text : List ℕ) → header_read (t ++ text) ≡ None
   unfolding header_read
   over-long-header text = rw (over-long-more text)
 

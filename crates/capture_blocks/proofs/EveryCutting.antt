@@ -10,8 +10,9 @@ use Rattle.tlp.specs.declared.settings.Settings.{Settings}
 use Rattle.capture_lines.specs.Lines.{complete_lines, unended, over_long}
 use Rattle.capture_print.specs.Outputs.{code_line}
 use Rattle.capture_decode.specs.Decode.{header_read, lines_decoded, tail_decoded, header_decoded, text_decoded, decode_text}
-use Rattle.capture.specs.declared.header.HeaderLine.{HeaderLine}
-use Rattle.capture.specs.declared.header.HeaderLine.TheVariants.{Good, Bad}
+use Rattle.capture.specs.declared.header.Header.{Header}
+use Rattle.std.specs.Prelude.{Option}
+use Rattle.std.specs.Prelude.{Some, None}
 use Rattle.capture_lines.proofs.LineLaws.{complete-append, unended-append, complete-unended, unended-all, drop-unended}
 use Rattle.capture_blocks.specs.Blocks.{step_lines, step_header, step_first, step_skipping, step_from, step_of, end_of, totals_follow, last_text, run_from, run_blocks, joined}
 use Rattle.capture_blocks.specs.EveryCutting.{EveryCutting}
@@ -33,9 +34,9 @@ module _ (P : ℕ → Type 0) (none : P 0) (t : List ℕ) (all : P (length t)) w
   left-lines c texts true h = rw h none
   left-lines c texts false h = rw h all
 
-  left-header : (h : HeaderLine) (texts : List (List ℕ)) → P (step_header h texts t).left
-  left-header Bad texts = none
-  left-header (Good h) texts = left-lines h.settings texts (over_long t) refl
+  left-header : (h : Option Header) (texts : List (List ℕ)) → P (step_header h texts t).left
+  left-header None texts = none
+  left-header (Some h) texts = left-lines h.settings texts (over_long t) refl
 
   left-first : (b : Bool) → over_long t ≡ b → P (step_first [] t).left
   unfolding step_first
@@ -91,9 +92,9 @@ refused-run (block ∷ blocks) rest lines refused = refused-run blocks _ _ _
 
 -- ---- what is to come of a whole input is its decoding
 
-header-decoded : (h : HeaderLine) (texts : List (List ℕ)) (tail : List ℕ) → header_ahead h 0 0 texts tail ≡ header_decoded h texts tail
-header-decoded Bad texts tail = refl
-header-decoded (Good h) texts tail = let d = lines_decoded h.settings texts (tail_decoded tail) in rw (zero-add d.lines, zero-add d.refused)
+header-decoded : (h : Option Header) (texts : List (List ℕ)) (tail : List ℕ) → header_ahead h 0 0 texts tail ≡ header_decoded h texts tail
+header-decoded None texts tail = refl
+header-decoded (Some h) texts tail = let d = lines_decoded h.settings texts (tail_decoded tail) in rw (zero-add d.lines, zero-add d.refused)
 
 text-decoded : (texts : List (List ℕ)) (tail : List ℕ) → first_ahead 0 0 texts tail ≡ text_decoded texts tail
 unfolding first_ahead text_decoded

@@ -11,8 +11,9 @@ use Rattle.capture_lines.specs.Lines.{text_most, over_long, complete_lines, unen
 use Rattle.capture_print.specs.Outputs.{code_line}
 use Rattle.capture_print.specs.declared.LineAnswer.TheVariants.{Bad}
 use Rattle.capture_decode.specs.Decode.{Decoding, header_read, line_read, line_step, no_lines, tail_decoded, lines_decoded}
-use Rattle.capture.specs.declared.header.HeaderLine.{HeaderLine}
-use Rattle.capture.specs.declared.header.HeaderLine.TheVariants.{Good, Bad as BadHeader}
+use Rattle.capture.specs.declared.header.Header.{Header}
+use Rattle.std.specs.Prelude.{Option}
+use Rattle.std.specs.Prelude.{Some, None}
 use Rattle.capture_lines.proofs.LineLaws.{complete-le}
 use Rattle.capture_blocks.specs.Blocks.{Stepping, step_lines, step_header, step_first, step_skipping, step_from, step_of, end_of}
 use Rattle.capture_blocks.specs.Answers.{step_in, has_room, answer_in, ending, step_answer, end_answer}
@@ -61,9 +62,9 @@ module _ (size : ℕ) (tail : List ℕ) where
   lines-bounded : (c : Settings) (texts : List (List ℕ)) → length texts + length tail ≤ size → Bounded size size (step_lines c texts tail)
   lines-bounded c texts h = lines-by c texts (over_long tail) refl h
 
-  header-bounded : (v : HeaderLine) (texts : List (List ℕ)) → length texts + length tail ≤ size → Bounded size size (step_header v texts tail)
-  header-bounded BadHeader texts h = no_lines_lem size size Refused (code_line 11)
-  header-bounded (Good v) texts h = lines-bounded v.settings texts h
+  header-bounded : (v : Option Header) (texts : List (List ℕ)) → length texts + length tail ≤ size → Bounded size size (step_header v texts tail)
+  header-bounded None texts h = no_lines_lem size size Refused (code_line 11)
+  header-bounded (Some v) texts h = lines-bounded v.settings texts h
 
   first_by : (b : Bool) → over_long tail ≡ b → length tail ≤ size → Bounded size size (step_first [] tail)
   unfolding step_first over_long

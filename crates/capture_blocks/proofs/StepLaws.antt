@@ -10,8 +10,9 @@ use Rattle.capture_lines.specs.Lines.{complete_lines, unended, over_long}
 use Rattle.capture_print.specs.Outputs.{code_line}
 use Rattle.capture_print.specs.declared.LineAnswer.TheVariants.{Bad}
 use Rattle.capture_decode.specs.Decode.{Decoding, header_read, line_step, no_lines, tail_decoded, lines_decoded}
-use Rattle.capture.specs.declared.header.HeaderLine.{HeaderLine}
-use Rattle.capture.specs.declared.header.HeaderLine.TheVariants.{Good, Bad as BadHeader}
+use Rattle.capture.specs.declared.header.Header.{Header}
+use Rattle.std.specs.Prelude.{Option}
+use Rattle.std.specs.Prelude.{Some, None}
 use Rattle.capture_lines.proofs.LineLaws.{Continued, open-still, ended, continued}
 use Rattle.capture_blocks.specs.Blocks.{Stepping, step_lines, step_header, step_first, step_skipping, step_from}
 use Rattle.capture_blocks.specs.declared.Progress.{Progress}
@@ -28,9 +29,9 @@ unfoldable pub rest_ahead : Settings → List (List ℕ) → List ℕ → Decodi
 rest_ahead c [] tail = no_lines
 rest_ahead c (rest ∷ texts) tail = lines_ahead c texts tail
 
-abbrev pub header_ahead : HeaderLine → ℕ → ℕ → List (List ℕ) → List ℕ → List ℕ
-header_ahead BadHeader lines refused texts tail = code_line 11
-header_ahead (Good h) lines refused texts tail = totals_from lines refused (lines_ahead h.settings texts tail)
+abbrev pub header_ahead : Option Header → ℕ → ℕ → List (List ℕ) → List ℕ → List ℕ
+header_ahead None lines refused texts tail = code_line 11
+header_ahead (Some h) lines refused texts tail = totals_from lines refused (lines_ahead h.settings texts tail)
 
 unfoldable pub first_ahead : ℕ → ℕ → List (List ℕ) → List ℕ → List ℕ
 first_ahead lines refused [] tail = code_line 11
@@ -94,10 +95,10 @@ module _ (t y : List ℕ) (n : complete_lines t ≡ []) (kept : ℕ → List ℕ
   lines_step_lem : (c : Settings) (texts : List (List ℕ)) → ahead (Lines c) lines refused (texts ++ complete_lines (t ++ y)) (unended (t ++ y)) ≡ step_ahead (step_lines c texts t) lines refused kept y
   lines_step_lem c texts = lines-by c texts (over_long t) refl
 
-  header-step : (h : HeaderLine) (texts : List (List ℕ)) → header_ahead h lines refused (texts ++ complete_lines (t ++ y)) (unended (t ++ y)) ≡ step_ahead (step_header h texts t) lines refused kept y
+  header-step : (h : Option Header) (texts : List (List ℕ)) → header_ahead h lines refused (texts ++ complete_lines (t ++ y)) (unended (t ++ y)) ≡ step_ahead (step_header h texts t) lines refused kept y
   unfolding step_ahead bytes_ahead
-  header-step BadHeader texts = sym (append-nil (code_line 11))
-  header-step (Good h) texts = lines_step_lem h.settings texts
+  header-step None texts = sym (append-nil (code_line 11))
+  header-step (Some h) texts = lines_step_lem h.settings texts
 
   first_by : (b : Bool) → over_long t ≡ b → first_ahead lines refused (complete_lines (t ++ y)) (unended (t ++ y)) ≡ step_ahead (step_first [] t) lines refused kept y
   unfolding step_first step_ahead bytes_ahead

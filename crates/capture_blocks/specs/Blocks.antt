@@ -7,8 +7,9 @@ use Rattle.tlp.specs.declared.settings.Settings.{Settings}
 use Rattle.capture_lines.specs.Lines.{complete_lines, unended, over_long}
 use Rattle.capture_print.specs.Outputs.{code_line, totals_line}
 use Rattle.capture_decode.specs.Decode.{Decoding, line_step, no_lines, header_read, lines_decoded, tail_decoded}
-use Rattle.capture.specs.declared.header.HeaderLine.{HeaderLine}
-use Rattle.capture.specs.declared.header.HeaderLine.TheVariants.{Good, Bad as BadHeader}
+use Rattle.capture.specs.declared.header.Header.{Header}
+use Rattle.std.specs.Prelude.{Option}
+use Rattle.std.specs.Prelude.{Some, None}
 use Rattle.capture_print.specs.declared.LineAnswer.TheVariants.{Bad}
 use Rattle.capture_blocks.specs.declared.Progress.{Progress}
 use Rattle.capture_blocks.specs.declared.Progress.TheVariants.{First, Lines, Skipping, Refused}
@@ -32,9 +33,9 @@ abbrev pub header_refused : Stepping
 header_refused =
     record { progress = Refused; decoding = record { output = code_line 11; lines = 0; refused = 0 }; left = 0 }
 
-abbrev pub step_header : HeaderLine → List (List ℕ) → List ℕ → Stepping
-step_header BadHeader texts tail = header_refused
-step_header (Good h) texts tail = step_lines h.settings texts tail
+abbrev pub step_header : Option Header → List (List ℕ) → List ℕ → Stepping
+step_header None texts tail = header_refused
+step_header (Some h) texts tail = step_lines h.settings texts tail
 
 unfoldable pub step_first : List (List ℕ) → List ℕ → Stepping
 step_first [] tail =

@@ -1,2 +1,3 @@
+pub mod Rooms
 pub mod Lines
 pub mod Steps

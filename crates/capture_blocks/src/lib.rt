@@ -3,19 +3,18 @@
 
 mod lines;
 
-ghost use Rattle.std.specs.Prelude.{◌≡◌, ◌-◌, ◌*◌, ◌≤◌, length};
+ghost use Rattle.std.specs.Prelude.{◌≡◌, ◌-◌, ◌≤◌, length};
 ghost use Rattle.bits.specs.Put.{put};
 ghost use Rattle.text.specs.Laid.{laid, after};
-ghost use Rattle.capture_lines.specs.Lines.{text_most};
 ghost use Rattle.capture_print.specs.Outputs.{code_line};
-ghost use Rattle.capture_decode.specs.Printed.{printed_each};
-ghost use Rattle.capture_blocks.specs.Blocks.{step_of, end_of, totals_follow, totals_of};
+ghost use Rattle.capture_blocks.specs.Blocks.{header_refused, step_of, end_of, totals_follow, totals_of};
 ghost use Rattle.capture_blocks.specs.Answers.{step_in, ending, step_answer, step_over, end_answer, end_over};
+ghost use Rattle.capture_blocks.specs.Inner.Rooms.{Room};
 ghost use Rattle.capture_blocks.specs.Inner.Steps.{lines_step, header_step, first_step, skipping_step, printed_step};
 ghost use Rattle.capture_blocks.specs.Inner.Steps.{silent_step, number_step};
 
-use crate::lines::decode_lines;
-use capture::header::{HeaderLine, header_line};
+use crate::lines::{SPACE, decode_lines};
+use capture::header::header_line;
 use capture_decode::PRINTED_EACH;
 use capture_lines::{NextLine, TEXT_MOST, next_line};
 use capture_print::{put_code, put_totals};
@@ -53,50 +52,13 @@ pub enum BlockAnswer {
     Refused(u32),
 }
 
-// The packet of the longest line has fewer bytes: two digits spell one.
-const SPACE: usize = TEXT_MOST / 2;
-
-// The lines after line one, from index from on.
-fn step_lines(
-    settings: Settings,
-    bytes: &[u8],
-    from: usize,
-    space: &mut [u8],
-    out: &mut [u8],
-) -> Step
-    requires from_in_bounds { from ≤ length bytes.now }
-    requires from_in_bounds_2 { printed_each * (length bytes.now - from) ≤ length out.old }
-    requires text_most_bound { text_most ≤ 2 * length space.old }
-    ensures answer { result ≡ step_in (lines_step settings bytes.now from) (length bytes.now) }
-    ensures output { out.new ≡ printed_step (lines_step settings bytes.now from) out.old }
-{
-    let tally = decode_lines(settings, bytes, from, space, out);
-    if TEXT_MOST < bytes.len() - tally.used {
-        let written = put_code(13, tally.written, out);
-        return Step {
-            progress: Progress::Skipping(settings),
-            used: bytes.len(),
-            written: written,
-            lines: tally.lines + 1,
-            refused: tally.refused + 1,
-        };
-    }
-    Step {
-        progress: Progress::Lines(settings),
-        used: tally.used,
-        written: tally.written,
-        lines: tally.lines,
-        refused: tally.refused,
-    }
-}
-
 // A step that prints nothing.
 fn silent(progress: Progress, used: usize) -> Step
     ensures { result ≡ silent_step progress used }
 {
     Step {
-        progress: progress,
-        used: used,
+        progress,
+        used,
         written: 0,
         lines: 0,
         refused: 0,
@@ -108,81 +70,110 @@ fn print_number(progress: Progress, bytes: &[u8], number: u32, lines: usize, out
     ensures answer { result ≡ number_step progress (length bytes.now) number lines out.old }
     ensures output { out.new ≡ laid 0 (code_line number) out.old }
 {
-    let written = put_code(number, 0, out);
     Step {
-        progress: progress,
+        progress,
         used: bytes.len(),
-        written: written,
-        lines: lines,
+        written: put_code(number, 0, out),
+        lines,
         refused: lines,
     }
 }
 
+// The lines after line one, from index from on.
+fn step_lines(
+    settings: Settings,
+    bytes: &[u8],
+    from: usize,
+    space: &mut [u8; SPACE],
+    out: &mut [u8],
+) -> Step
+    requires from { from ≤ length bytes.now }
+    requires room { Room 0 (length bytes.now - from) out.old }
+    ensures answer { result ≡ step_in (lines_step settings bytes.now from) (length bytes.now) }
+    ensures output { out.new ≡ printed_step (lines_step settings bytes.now from) out.old }
+{
+    let step = decode_lines(settings, bytes, from, space, out);
+    if bytes.len() - step.used <= TEXT_MOST {
+        return step;
+    }
+    Step {
+        progress: Progress::Skipping(settings),
+        used: bytes.len(),
+        written: put_code(13, step.written, out),
+        lines: step.lines + 1,
+        refused: step.refused + 1,
+    }
+}
+
+// Line one is bad, or over-long: nothing of what follows it is decoded.
+#[tactic(auto, using(crate::proofs::StepReturns::refused_laws))]
+fn refuse_header(bytes: &[u8], out: &mut [u8]) -> Step
+    requires { Room 0 1 out.old }
+    ensures answer { result ≡ step_in header_refused (length bytes.now) }
+    ensures output { out.new ≡ printed_step header_refused out.old }
+{
+    print_number(Progress::Refused, bytes, 11, 0, out)
+}
+
 // Line one, up to index end, and what follows it.
-fn step_header(bytes: &[u8], end: usize, space: &mut [u8], out: &mut [u8]) -> Step
-    requires le_end { (1 ≤ end) × (end ≤ length bytes.now) }
-    requires bytes_in_bounds { printed_each * length bytes.now ≤ length out.old }
-    requires text_most_bound { text_most ≤ 2 * length space.old }
+fn step_header(bytes: &[u8], end: usize, space: &mut [u8; SPACE], out: &mut [u8]) -> Step
+    requires end { (1 ≤ end) × (end ≤ length bytes.now) }
+    requires room { Room 0 (length bytes.now) out.old }
     ensures answer { result ≡ step_in (header_step bytes.now end) (length bytes.now) }
     ensures output { out.new ≡ printed_step (header_step bytes.now end) out.old }
 {
-    let line = header_line(part(bytes, 0, end - 1));
-    match line {
-        HeaderLine::Bad => print_number(Progress::Refused, bytes, 11, 0, out),
-        HeaderLine::Good(header) => {
-            let settings = header.settings;
-            step_lines(settings, bytes, end, space, out)
-        }
+    match header_line(part(bytes, 0, end - 1)) {
+        None => refuse_header(bytes, out),
+        Some(header) => step_lines(header.settings, bytes, end, space, out),
     }
 }
 
 // Line one has not come.
-fn step_first(bytes: &[u8], space: &mut [u8], out: &mut [u8]) -> Step
-    requires bytes_in_bounds { printed_each * length bytes.now ≤ length out.old }
-    requires text_most_bound { text_most ≤ 2 * length space.old }
+fn step_first(bytes: &[u8], space: &mut [u8; SPACE], out: &mut [u8]) -> Step
+    requires { Room 0 (length bytes.now) out.old }
     ensures answer { result ≡ step_in (first_step bytes.now) (length bytes.now) }
     ensures output { out.new ≡ printed_step (first_step bytes.now) out.old }
 {
-    let line = next_line(bytes, 0);
-    match line {
-        NextLine::OverLong { end } => print_number(Progress::Refused, bytes, 11, 0, out),
+    match next_line(bytes, 0) {
         NextLine::Ended { end } => step_header(bytes, end, space, out),
+        NextLine::OverLong { .. } => refuse_header(bytes, out),
         NextLine::Unended { end } => {
-            if TEXT_MOST < end {
-                return print_number(Progress::Refused, bytes, 11, 0, out);
+            if end <= TEXT_MOST {
+                silent(Progress::First, 0)
+            } else {
+                refuse_header(bytes, out)
             }
-            silent(Progress::First, 0)
         }
     }
 }
 
 // What comes begins with the rest of an over-long line.
-fn step_skipping(settings: Settings, bytes: &[u8], space: &mut [u8], out: &mut [u8]) -> Step
-    requires bytes_in_bounds { printed_each * length bytes.now ≤ length out.old }
-    requires text_most_bound { text_most ≤ 2 * length space.old }
+fn step_skipping(settings: Settings, bytes: &[u8], space: &mut [u8; SPACE], out: &mut [u8]) -> Step
+    requires { Room 0 (length bytes.now) out.old }
     ensures answer { result ≡ step_in (skipping_step settings bytes.now) (length bytes.now) }
     ensures output { out.new ≡ printed_step (skipping_step settings bytes.now) out.old }
 {
-    let line = next_line(bytes, 0);
-    match line {
-        NextLine::OverLong { end } => step_lines(settings, bytes, end, space, out),
-        NextLine::Ended { end } => step_lines(settings, bytes, end, space, out),
-        NextLine::Unended { end } => silent(Progress::Skipping(settings), bytes.len()),
+    match next_line(bytes, 0) {
+        NextLine::OverLong { end } | NextLine::Ended { end } => step_lines(
+            settings, bytes, end, space, out,
+        ),
+        NextLine::Unended { .. } => silent(Progress::Skipping(settings), bytes.len()),
     }
 }
 
 // A step for which there is room.
-fn step_within(progress: Progress, bytes: &[u8], space: &mut [u8], out: &mut [u8]) -> Step
-    requires bytes_in_bounds { printed_each * length bytes.now ≤ length out.old }
-    requires text_most_bound { text_most ≤ 2 * length space.old }
+#[tactic(auto, using(crate::proofs::CallReturns::within_laws), unfolding(crate::specs::Blocks::step_of))]
+fn step_within(progress: Progress, bytes: &[u8], out: &mut [u8]) -> Step
+    requires { Room 0 (length bytes.now) out.old }
     ensures answer { result ≡ step_in (step_of progress bytes.now) (length bytes.now) }
     ensures output { out.new ≡ printed_step (step_of progress bytes.now) out.old }
 {
+    let mut space = [0u8; SPACE];
     match progress {
-        Progress::First => step_first(bytes, space, out),
-        Progress::Lines(settings) => step_lines(settings, bytes, 0, space, out),
-        Progress::Skipping(settings) => step_skipping(settings, bytes, space, out),
-        Progress::Refused => silent(Progress::Refused, bytes.len()),
+        Progress::First => step_first(bytes, &mut space, out),
+        Progress::Lines(settings) => step_lines(settings, bytes, 0, &mut space, out),
+        Progress::Skipping(settings) => step_skipping(settings, bytes, &mut space, out),
+        Progress::Refused => silent(progress, bytes.len()),
     }
 }
 
@@ -195,26 +186,25 @@ pub fn decode_block(progress: Progress, bytes: &[u8], out: &mut [u8]) -> BlockAn
     if out.len() / PRINTED_EACH < bytes.len() {
         return BlockAnswer::Refused(12);
     }
-    let mut space = [0u8; SPACE];
-    BlockAnswer::Stepped(step_within(progress, bytes, &mut space, out))
+    BlockAnswer::Stepped(step_within(progress, bytes, out))
 }
 
 // The end of the input, where there is room.
 fn end_within(progress: Progress, rest: &[u8], out: &mut [u8]) -> Step
-    requires { printed_each ≤ length out.old }
+    requires { Room 0 1 out.old }
     ensures answer { result ≡ step_in (ending progress rest.now) (length rest.now) }
     ensures output { out.new ≡ put 0 (end_of progress rest.now).output out.old }
 {
     match progress {
-        Progress::First => print_number(Progress::First, rest, 11, 0, out),
-        Progress::Lines(settings) => {
-            if rest.len() == 0 {
-                return silent(Progress::Lines(settings), 0);
+        Progress::First => print_number(progress, rest, 11, 0, out),
+        Progress::Lines(_) => {
+            if rest.is_empty() {
+                silent(progress, rest.len())
+            } else {
+                print_number(progress, rest, 13, 1, out)
             }
-            print_number(Progress::Lines(settings), rest, 13, 1, out)
         }
-        Progress::Skipping(settings) => silent(Progress::Skipping(settings), rest.len()),
-        Progress::Refused => silent(Progress::Refused, rest.len()),
+        Progress::Skipping(_) | Progress::Refused => silent(progress, rest.len()),
     }
 }
 
@@ -230,19 +220,16 @@ pub fn decode_end(progress: Progress, rest: &[u8], out: &mut [u8]) -> BlockAnswe
     BlockAnswer::Stepped(end_within(progress, rest, out))
 }
 
+#[tactic(auto, unfolding(crate::specs::Blocks::totals_follow))]
 fn totals_follow(progress: Progress) -> bool
     ensures { result ≡ totals_follow progress }
 {
-    match progress {
-        Progress::First => false,
-        Progress::Lines(settings) => true,
-        Progress::Skipping(settings) => true,
-        Progress::Refused => false,
-    }
+    matches!(progress, Progress::Lines(_) | Progress::Skipping(_))
 }
 
 // Prints the totals, where they follow: laid into out from index at on, and the index after them; at and nothing laid
 // where they do not fit.
+#[tactic(auto, using(crate::proofs::CallReturns::totals_laws))]
 pub fn put_totals_of(
     progress: Progress,
     lines: u64,
@@ -253,8 +240,9 @@ pub fn put_totals_of(
     ensures answer { result ≡ after at (totals_of progress lines refused) out.old }
     ensures output { out.new ≡ laid at (totals_of progress lines refused) out.old }
 {
-    if !totals_follow(progress) {
-        return at;
+    if totals_follow(progress) {
+        put_totals(lines, refused, at, out)
+    } else {
+        at
     }
-    put_totals(lines, refused, at, out)
 }

@@ -7,6 +7,7 @@ use lib.ListN.{length, take}
 use lib.Seq.{get_or-take}
 use Rattle.bits.specs.Word.{byte, word}
 use Rattle.tlp.specs.Rows.{first}
+use Rattle.tlp.specs.Refusals.{answered}
 use Rattle.tlp.specs.PacketTypes.{type_at}
 use Rattle.tlp.specs.Packets.{type_of, access_of}
 use Rattle.tlp.specs.Sizes.{length_at, digest_at, bytes_called}
@@ -15,9 +16,9 @@ use Rattle.tlp.specs.declared.packet.Packet.{Packet}
 use Rattle.tlp.specs.declared.packet_type.PacketType.{PacketType}
 use Rattle.tlp.specs.declared.packet_type.PacketType.TheVariants.{MRd32, MRd64, MWr32, MWr64, IORd, IOWr, CfgRd0, CfgWr0, CfgRd1, CfgWr1, Msg, MsgD, Cpl, CplD, Unlisted}
 use Rattle.tlp_read.specs.Fields.{packet_at, attributes_at, request_at, config_at, message_at, completion_at, message_route_at, route_at, kind_at}
-use Rattle.tlp_read.specs.Read.{judge_rows, read_rows, answer_of, read_packet, hint_or_address_type_set, routing_bad, form_bad}
-use Rattle.capture_print.specs.Outputs.{packet_output, read_output}
-use Rattle.capture_decode.specs.Decode.{read_refused}
+use Rattle.tlp_read.specs.Read.{judge_rows, read_rows, read_packet, hint_or_address_type_set, routing_bad, form_bad}
+use Rattle.capture_print.specs.Outputs.{packet_output, output_line}
+use Rattle.capture_decode.specs.Decode.{refused_count}
 use Rattle.capture_decode.specs.Printed.{printed_front}
 
 module _ (packet laid : List ℕ) (taken : take printed_front laid ≡ take printed_front packet) where
@@ -119,20 +120,20 @@ module _ (packet laid : List ℕ) (taken : take printed_front laid ≡ take prin
   packet-front t = rw (route-front t, kind-front t)
 
 -- answers with one number print alike where their packets do
-answers-output : (m n : ℕ) (p q : Packet) → m ≡ n → packet_output p ≡ packet_output q → read_output (answer_of m p) ≡ read_output (answer_of n q)
-unfolding read_output
+answers-output : (m n : ℕ) (p q : Packet) → m ≡ n → packet_output p ≡ packet_output q → output_line (answered m p) ≡ output_line (answered n q)
+unfolding output_line
 answers-output m zero p q e h = rw e h
 answers-output m (suc n) p q e h = rw e
 
-answers-refused : (m n : ℕ) (p q : Packet) → m ≡ n → read_refused (answer_of m p) ≡ read_refused (answer_of n q)
+answers-refused : (m n : ℕ) (p q : Packet) → m ≡ n → refused_count (answered m p) ≡ refused_count (answered n q)
 answers-refused m zero p q e = rw e
 answers-refused m (suc n) p q e = rw e
 
-pub front-output : (c : Settings) (packet laid : List ℕ) → length laid ≡ length packet → take printed_front laid ≡ take printed_front packet → read_output (read_packet c laid) ≡ read_output (read_packet c packet)
+pub front-output : (c : Settings) (packet laid : List ℕ) → length laid ≡ length packet → take printed_front laid ≡ take printed_front packet → output_line (read_packet c laid) ≡ output_line (read_packet c packet)
 unfolding read_packet
 front-output c packet laid size taken =
     answers-output _ _ _ _ (rows-front packet laid taken c size) (rw (byte-front packet laid taken 0 (omega arith)) (packet-front packet laid taken (type_at (byte packet 0))))
 
-pub front-refused : (c : Settings) (packet laid : List ℕ) → length laid ≡ length packet → take printed_front laid ≡ take printed_front packet → read_refused (read_packet c laid) ≡ read_refused (read_packet c packet)
+pub front-refused : (c : Settings) (packet laid : List ℕ) → length laid ≡ length packet → take printed_front laid ≡ take printed_front packet → refused_count (read_packet c laid) ≡ refused_count (read_packet c packet)
 unfolding read_packet
 front-refused c packet laid size taken = answers-refused _ _ _ _ (rows-front packet laid taken c size)

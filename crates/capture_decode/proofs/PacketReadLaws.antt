@@ -4,7 +4,7 @@ use mathlib.Core.Logic.{⊎_elim}
 use mathlib.Core.Path.{◌≡◌, refl, sym, ◌∙◌, ap}
 use mathlib.Core.Bool.{Bool, true, false}
 use mathlib.Core.List.{List}
-use mathlib.Core.Option.{Option, some, none}
+use Rattle.std.specs.Prelude.{Option, Some, None, Result, Ok, Err}
 use native.Mathlib.Nat.{sub-zero}
 use native.Mathlib.Omega.{arith}
 use lib.ListN.{length, take, drop, length-take}
@@ -17,15 +17,13 @@ use Rattle.text.specs.Laid.{fits}
 use Rattle.text.proofs.LaidLaws.{laid-fits}
 use Rattle.text.proofs.Order.{lt-or-le}
 use Rattle.tlp.specs.declared.settings.Settings.{Settings}
-use Rattle.tlp_read.specs.declared.ReadAnswer.{ReadAnswer}
+use Rattle.tlp.specs.declared.packet.Packet.{Packet}
+use Rattle.tlp.specs.declared.refusal.Refusal.{Refusal}
+use Rattle.tlp.specs.declared.refusal.Refusal.TheVariants.{OutputTooShort, BadLine}
 use Rattle.tlp_read.specs.Read.{read_packet}
 use Rattle.capture_print.specs.Outputs.{output_line}
-use Rattle.capture_print.specs.declared.LineAnswer.{LineAnswer}
-use Rattle.capture_print.specs.declared.LineAnswer.TheVariants.{Read, Bad, Refused}
 use Rattle.capture.specs.PacketLines.{PacketText, packet_line, entry_answer, packet_over}
 use Rattle.capture.specs.declared.packet_line.Entry.{Entry}
-use Rattle.capture.specs.declared.packet_line.PacketLine.{PacketLine}
-use Rattle.capture.specs.declared.packet_line.PacketLine.TheVariants.{Packet, Bad as BadLine, Refused as Unlaid}
 use Rattle.capture.proofs.PacketBytes.{packet-bytes}
 use Rattle.capture_decode.specs.Decode.{text_read, refused_count}
 use Rattle.capture_decode.specs.PacketReads.{standing, packet_read}
@@ -34,52 +32,41 @@ use Rattle.capture_decode.proofs.FrontLaws.{front-output, front-refused}
 
 -- ---- return by return
 
-module _ (settings : Settings) (most : ℕ) (text space : List ℕ) (line : PacketLine) (e : line ≡ entry_answer most (packet_line text) space) where
-  abbrev Entered : PacketText → Bool → PacketLine
-  Entered p t = pick t (Packet (record { at = p.at; direction = p.direction; size = length p.bytes })) (Unlaid 12)
+module _ (settings : Settings) (most : ℕ) (text space : List ℕ) (line : Result Entry Refusal) (e : line ≡ entry_answer most (packet_line text) space) where
+  abbrev Entered : PacketText → Bool → Result Entry Refusal
+  Entered p t = pick t (Ok (record { at = p.at; direction = p.direction; size = length p.bytes })) (Err OutputTooShort)
 
-  abbrev Answered : PacketText → Bool → LineAnswer
-  Answered p t = pick t (Read (read_packet settings (standing most p space))) (Refused 12)
+  abbrev Answered : PacketText → Bool → Result Packet Refusal
+  Answered p t = pick t (read_packet settings (standing most p space)) (Err OutputTooShort)
 
-  pub line-bad : line ≡ BadLine → Bad ≡ packet_read settings most (packet_line text) space
-  line-bad u = by (packet_line text) (sym u ∙ e)
+  pub line-refused : (r : Refusal) → line ≡ Err r → Err r ≡ packet_read settings most (packet_line text) space
+  line-refused r u = by (packet_line text) (sym u ∙ e)
     where
-      by-room : (p : PacketText) (t : Bool) → BadLine ≡ Entered p t → Bad ≡ Answered p t
+      by-room : (p : PacketText) (t : Bool) → Err r ≡ Entered p t → Err r ≡ Answered p t
       by-room p true q = let z : ◌≡◌ {A = ℕ} 0 1 = cc in absurd (omega arith)
-      by-room p false q = let z : ◌≡◌ {A = ℕ} 0 1 = cc in absurd (omega arith)
+      by-room p false q = let m : r ≡ OutputTooShort = cc in rw m
 
-      by : (o : Option PacketText) → BadLine ≡ entry_answer most o space → Bad ≡ packet_read settings most o space
-      by none q = refl
-      by (some p) q = by-room p (fits 0 (take most p.bytes) space) q
+      by : (o : Option PacketText) → Err r ≡ entry_answer most o space → Err r ≡ packet_read settings most o space
+      by None q = let m : r ≡ BadLine = cc in rw m
+      by (Some p) q = by-room p (fits 0 (take most p.bytes) space) q
 
-  pub line-unlaid : (n : ℕ) → line ≡ Unlaid n → Refused n ≡ packet_read settings most (packet_line text) space
-  line-unlaid n u = by (packet_line text) (sym u ∙ e)
-    where
-      by-room : (p : PacketText) (t : Bool) → Unlaid n ≡ Entered p t → Refused n ≡ Answered p t
-      by-room p true q = let z : ◌≡◌ {A = ℕ} 0 1 = cc in absurd (omega arith)
-      by-room p false q = let m : n ≡ 12 = cc in rw m
-
-      by : (o : Option PacketText) → Unlaid n ≡ entry_answer most o space → Refused n ≡ packet_read settings most o space
-      by none q = let z : ◌≡◌ {A = ℕ} 0 1 = cc in absurd (omega arith)
-      by (some p) q = by-room p (fits 0 (take most p.bytes) space) q
-
-  module _ (entry : Entry) (u : line ≡ Packet entry) (space' part : List ℕ) (o : space' ≡ packet_over most (packet_line text) space) (d : part ≡ take (entry.size - 0) (drop 0 space'))
-      (a : ReadAnswer) (k : a ≡ read_packet settings part) where
-    part_by : (x : Option PacketText) → packet_line text ≡ x → Packet entry ≡ entry_answer most x space → Read a ≡ packet_read settings most x space
-    part_by none q w = let z : ◌≡◌ {A = ℕ} 0 1 = cc in absurd (omega arith)
-    part_by (some p) q w = by (fits 0 (take most p.bytes) space) w
+  module _ (entry : Entry) (u : line ≡ Ok entry) (space' part : List ℕ) (o : space' ≡ packet_over most (packet_line text) space) (d : part ≡ take (entry.size - 0) (drop 0 space'))
+      (a : Result Packet Refusal) (k : a ≡ read_packet settings part) where
+    part_by : (x : Option PacketText) → packet_line text ≡ x → Ok entry ≡ entry_answer most x space → a ≡ packet_read settings most x space
+    part_by None q w = let z : ◌≡◌ {A = ℕ} 0 1 = cc in absurd (omega arith)
+    part_by (Some p) q w = by (fits 0 (take most p.bytes) space) w
       where
-        by : (t : Bool) → Packet entry ≡ Entered p t → Read a ≡ Answered p t
+        by : (t : Bool) → Ok entry ≡ Entered p t → a ≡ Answered p t
         by true w =
             let n : entry.size ≡ length p.bytes = cc in
             let s : part ≡ standing most p space = d ∙ rw (n, sub-zero (length p.bytes), o, q) in
-            ap Read (k ∙ ap (read_packet settings) s)
+            k ∙ ap (read_packet settings) s
         by false w = let z : ◌≡◌ {A = ℕ} 0 1 = cc in absurd (omega arith)
 
-    pub line_read_lem : Read a ≡ packet_read settings most (packet_line text) space
+    pub line_read_lem : a ≡ packet_read settings most (packet_line text) space
     line_read_lem = part_by (packet_line text) refl (sym u ∙ e)
 
-pub ruleset packet-read-laws = (line-bad, line-unlaid, line_read_lem)
+pub ruleset packet_read_laws = (line-refused, line_read_lem)
 
 -- ---- as many bytes of a space as a packet has, over whose front its first most were laid
 
@@ -125,22 +112,21 @@ module _ (most : ℕ) (p : PacketText) (space : List ℕ) (h : length p.bytes �
       ⊎_elim (λ (k : length p.bytes < most). ap (take n) (standing-all (omega arith))) (λ (k : most ≤ length p.bytes). standing-part n l k)
       (lt-or-le (length p.bytes) most)
 
-  read_is : (settings : Settings) → packet_read settings most (some p) space ≡ Read (read_packet settings (standing most p space))
+  read_is : (settings : Settings) → packet_read settings most (Some p) space ≡ read_packet settings (standing most p space)
   read_is settings = rw (le-leb (0 + length front) (length space) front_fits)
 
   -- ---- laid whole, it is read as itself
 
-  pub all_read : (settings : Settings) → length p.bytes ≤ most → packet_read settings most (some p) space ≡ text_read settings (some p)
-  all_read settings k = read_is settings ∙ ap (λ (packet : List ℕ). Read (read_packet settings packet)) (standing-all k)
+  pub all_read : (settings : Settings) → length p.bytes ≤ most → packet_read settings most (Some p) space ≡ text_read settings (Some p)
+  all_read settings k = read_is settings ∙ ap (read_packet settings) (standing-all k)
 
   -- ---- from 16 bytes on, what is printed and counted is the same
 
   module _ (settings : Settings) (l : printed_front ≤ most) where
-    packet-output : output_line (packet_read settings most (some p) space) ≡ output_line (text_read settings (some p))
-    unfolding output_line
+    packet-output : output_line (packet_read settings most (Some p) space) ≡ output_line (text_read settings (Some p))
     packet-output = ap output_line (read_is settings) ∙ front-output settings p.bytes (standing most p space) standing-length (standing-front printed_front l)
 
-    packet-refused : refused_count (packet_read settings most (some p) space) ≡ refused_count (text_read settings (some p))
+    packet-refused : refused_count (packet_read settings most (Some p) space) ≡ refused_count (text_read settings (Some p))
     packet-refused = ap refused_count (read_is settings) ∙ front-refused settings p.bytes (standing most p space) standing-length (standing-front printed_front l)
 
 module _ (settings : Settings) (most : ℕ) (l : printed_front ≤ most) (text space : List ℕ) (room : length text ≤ 2 * length space) where
@@ -148,12 +134,12 @@ module _ (settings : Settings) (most : ℕ) (l : printed_front ≤ most) (text s
   front-printed = by (packet_line text) refl
     where
       by : (o : Option PacketText) → packet_line text ≡ o → output_line (packet_read settings most o space) ≡ output_line (text_read settings o)
-      by none q = refl
-      by (some p) q = packet-output most p space (omega (arith, packet-bytes text p q, room)) settings l
+      by None q = refl
+      by (Some p) q = packet-output most p space (omega (arith, packet-bytes text p q, room)) settings l
 
   pub front-counted : refused_count (packet_read settings most (packet_line text) space) ≡ refused_count (text_read settings (packet_line text))
   front-counted = by (packet_line text) refl
     where
       by : (o : Option PacketText) → packet_line text ≡ o → refused_count (packet_read settings most o space) ≡ refused_count (text_read settings o)
-      by none q = refl
-      by (some p) q = packet-refused most p space (omega (arith, packet-bytes text p q, room)) settings l
+      by None q = refl
+      by (Some p) q = packet-refused most p space (omega (arith, packet-bytes text p q, room)) settings l

@@ -8,6 +8,7 @@ use Rattle.text.specs.Hex.{hex_number, pairs, bytes_spelled}
 use Rattle.text.specs.Words.{word_length, word_end, begins_with, starts_with, value_at}
 use Rattle.text.specs.Fields.{decimal_after, hex_after, key_after}
 use Rattle.tlp.specs.Rows.{first}
+use Rattle.tlp.specs.Refusals.{refusal}
 use Rattle.tlp.specs.Settings.{settings_listed}
 use Rattle.tlp.specs.PacketTypes.{type_at}
 use Rattle.tlp.specs.Packets.{type_of, access_of}
@@ -18,9 +19,9 @@ use Rattle.tlp_read.specs.Read.{hint_or_address_type_set, routing_bad, form_bad,
 use Rattle.capture_print.specs.Words.{newline}
 use Rattle.text.specs.Letters.{letters_from, letters}
 use Rattle.capture_lines.specs.Lines.{complete_lines, line_with, unended, tail_with, over_long}
-use Rattle.capture.specs.Headers.{header_good, header_line}
+use Rattle.capture.specs.Headers.{header_line}
 use Rattle.capture.specs.PacketLines.{direction_after, front_of, packet_line}
-use Rattle.capture_print.specs.Outputs.{code_line, packet_output, read_output, output_line, totals_line}
+use Rattle.capture_print.specs.Outputs.{code_line, packet_output, output_line, totals_line}
 use Rattle.capture_decode.specs.Decode.{header_read, line_read, tail_decoded, lines_decoded, text_decoded, decode_text}
 
 -- lines, each ended by a newline
@@ -58,5 +59,5 @@ pub inputs-decoded : map decode_text
     ∷ ended ("code=11" ∷ [])
     ∷ ended ("code=11" ∷ [])
     ∷ []
-unfolding decode_text text_decoded header_read lines_decoded tail_decoded line_read complete_lines line_with unended tail_with over_long code_line packet_output read_output output_line totals_line header_line header_good packet_line front_of direction_after decimal_after hex_after key_after value_at starts_with begins_with word_end word_length plainly plain number_in hex_number empty all_digits hex_value value_from bytes_spelled pairs digits count_to hex_digit settings_listed read_packet first type_at type_of access_of enables_allowed or_most length_at digest_at data_bytes digest_bytes bytes_called not_plain plain_bad enables_bad page_bad attributes_at digest_word request_at config_at message_at completion_at implicit_at message_route_at route_at kind_at packet_at hint_or_address_type_set routing_bad form_bad letters_from
+unfolding decode_text text_decoded header_read lines_decoded tail_decoded line_read complete_lines line_with unended tail_with over_long code_line packet_output output_line totals_line header_line packet_line front_of direction_after decimal_after hex_after key_after value_at starts_with begins_with word_end word_length plainly plain number_in hex_number empty all_digits hex_value value_from bytes_spelled pairs digits count_to hex_digit settings_listed read_packet first refusal type_at type_of access_of enables_allowed or_most length_at digest_at data_bytes digest_bytes bytes_called not_plain plain_bad enables_bad page_bad attributes_at digest_word request_at config_at message_at completion_at implicit_at message_route_at route_at kind_at packet_at hint_or_address_type_set routing_bad form_bad letters_from
 inputs-decoded = refl

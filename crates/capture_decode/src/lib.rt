@@ -5,9 +5,10 @@ ghost use Rattle.std.specs.Prelude.{◌≡◌};
 ghost use Rattle.capture.specs.PacketLines.{packet_line, packet_over};
 ghost use Rattle.capture_decode.specs.PacketReads.{packet_read};
 
-use capture::packet_line::{PacketLine, packet_line};
-use capture_print::LineAnswer;
+use capture::packet_line::packet_line;
 use text::words::part;
+use tlp::packet::Packet;
+use tlp::refusal::Refusal;
 use tlp::settings::Settings;
 use tlp_read::read;
 
@@ -19,14 +20,16 @@ pub const PRINTED_EACH: usize = 8;
 
 // Reads the packet of a line's text. Its first most bytes go over the front of space, and as many bytes of space as it
 // has are read: with most at its size or above the packet itself, with PRINTED_FRONT what prints the same.
-pub fn packet_read(settings: Settings, text: &[u8], most: usize, space: &mut [u8]) -> LineAnswer
+#[tactic(auto, using(crate::proofs::PacketReadLaws::packet_read_laws))]
+pub fn packet_read(
+    settings: Settings,
+    text: &[u8],
+    most: usize,
+    space: &mut [u8],
+) -> Result<Packet, Refusal>
     ensures answer { result ≡ packet_read settings most (packet_line text.now) space.old }
     ensures output { space.new ≡ packet_over most (packet_line text.now) space.old }
 {
-    let line = packet_line(text, most, space);
-    match line {
-        PacketLine::Bad => LineAnswer::Bad,
-        PacketLine::Refused(number) => LineAnswer::Refused(number),
-        PacketLine::Packet(entry) => LineAnswer::Read(read(settings, part(space, 0, entry.size))),
-    }
+    let entry = packet_line(text, most, space)?;
+    read(settings, part(space, 0, entry.size))
 }

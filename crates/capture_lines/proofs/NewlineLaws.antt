@@ -1,15 +1,15 @@
 -- The line that begins at a place: one law for each place of the code.
 use Prim.Native.Nat.{ℕ, zero, suc, ◌+◌, ◌-◌, ◌≤◌, ◌<◌, min}
-use mathlib.Core.Path.{◌≡◌, refl, sym, ◌∙◌}
+use mathlib.Core.Path.{◌≡◌, refl, sym, ◌∙◌, ap}
 use mathlib.Core.Bool.{Bool, true, false, ◌||◌, or-false, or_assoc, true≢false}
-use mathlib.Core.Logic.{⊎_elim}
-use mathlib.Core.List.{List, [], ◌∷◌}
+use mathlib.Core.Logic.{⊎_elim, ◌≢◌}
+use mathlib.Core.List.{List, [], ◌∷◌, ◌++◌}
 use native.Mathlib.Nat.{add-zero}
 use native.Mathlib.Numerals.{add-one}
 use native.Mathlib.Omega.{arith}
 use lib.Dec.{ltb, eqb}
-use lib.ListN.{length, get_or, take, drop, length-drop, drop_of_length-le}
-use lib.Seq.{drop-cons, drop-drop}
+use lib.ListN.{length, get_or, drop, length-drop, length-append, drop_of_length-le}
+use lib.Seq.{drop-cons, drop-drop, drop-append_seam}
 use borrow.Author.Tests.{lt-ltb, le-ltb, eq-eqb, ne_eqb}
 use Rattle.bits.specs.Choice.{pick}
 use Rattle.text.proofs.Order.{lt-or-le}
@@ -53,41 +53,52 @@ or_right : (a b : Bool) → a || b ≡ false → b ≡ false
 or_right true b h = absurd (true≢false h)
 or_right false b h = h
 
-skipped : (k : ℕ) (bytes : List ℕ) → k ≤ length bytes → ltb (line_length (take k bytes)) (length (take k bytes)) ≡ false → k + line_length (drop k bytes) ≡ line_length bytes
+skipped : (x y : List ℕ) → ltb (line_length x) (length x) ≡ false → length x + line_length y ≡ line_length (x ++ y)
 unfolding line_length
-skipped zero bytes l e = omega arith
-skipped (suc k) [] l e = absurd (omega arith)
-skipped (suc k) (b ∷ bytes) l e =
-    let f : is_newline b || ltb (line_length (take k bytes)) (length (take k bytes)) ≡ false = sym (ends_by (is_newline b) (line_length (take k bytes)) (length (take k bytes))) ∙ e in
-    let h : k + line_length (drop k bytes) ≡ line_length bytes = skipped k bytes (omega arith) (or_right (is_newline b) _ f) in
+skipped [] y e = omega arith
+skipped (b ∷ x) y e =
+    let f : is_newline b || ltb (line_length x) (length x) ≡ false = sym (ends_by (is_newline b) (line_length x) (length x)) ∙ e in
+    let r : length x + line_length y ≡ line_length (x ++ y) = skipped x y (or_right (is_newline b) _ f) in
     rw (or_left (is_newline b) _ f) (omega arith)
 
--- the first newline from index i on is at index t, or that is the end
+-- the code stands before a chunk x that has no newline
 
-module _ (bytes : List ℕ) (i t : ℕ) (q : i + line_length (drop i bytes) ≡ t) where
-  pub chunk_next : (r : Bool) → r ≡ ltb (line_length (take (i + 32 - i) (drop i bytes))) (length (take (i + 32 - i) (drop i bytes))) → r ≡ false
-      → 32 ≤ length bytes - i → i + 32 + line_length (drop (i + 32) bytes) ≡ t
-  chunk_next r e f h =
-      let z : i + 32 - i ≡ 32 = omega arith in
-      let k : 32 + line_length (drop 32 (drop i bytes)) ≡ line_length (drop i bytes) = skipped 32 (drop i bytes) (rw (length-drop i bytes) h) (rw z at (sym e ∙ f)) in
-      rw (← drop-drop 32 i bytes) (omega arith)
+module _ (bytes rest x y : List ℕ) (i : ℕ) (h : i ≤ length bytes) (e : rest ≡ drop i bytes) (f : rest ≡ x ++ y) (k : length x ≡ 32) where
+  pub chunk-within : i + 32 ≤ length bytes
+  chunk-within = omega (arith, ap length f, ap length e, length-append x y, length-drop i bytes)
 
-  pub line-done : length bytes ≤ i → i ≡ t
-  unfolding line_length
-  line-done h = sym (add-zero i) ∙ (rw (drop_of_length-le bytes h) at q)
+  pub chunk-rest : y ≡ drop (i + 32) bytes
+  chunk-rest = sym (rw k at (drop-append_seam x y)) ∙ (ap (λ (w : List ℕ). drop 32 w) (sym f ∙ e) ∙ drop-drop 32 i bytes)
 
-  module _ (h : i < length bytes) where
-    pub line-here : get_or bytes i 0 ≡ 10 → i ≡ t
-    unfolding line_length
-    line-here e = sym (add-zero i) ∙ (rw (drop-cons bytes i 0 h, eq-eqb (get_or bytes i 0) 10 e) at q)
+  pub chunk-newline : (t : ℕ) → i + line_length (drop i bytes) ≡ t → (r : Bool) → r ≡ ltb (line_length x) (length x) → r ≡ false → i + 32 + line_length (drop (i + 32) bytes) ≡ t
+  chunk-newline t q r g p =
+      let s : length x + line_length y ≡ line_length (drop i bytes) = skipped x y (sym g ∙ p) ∙ ap line_length (sym f ∙ e) in
+      rw (← chunk-rest) (omega arith)
 
-    pub line-next : (get_or bytes i 0 ≡ 10 → ⊥) → i + 1 + line_length (drop (i + 1) bytes) ≡ t
-    unfolding line_length
-    line-next e =
-        let k : i + suc (line_length (drop (suc i) bytes)) ≡ t = rw (drop-cons bytes i 0 h, ne_eqb (get_or bytes i 0) 10 e) at q in
-        rw (add-one i) (omega arith)
+pub ruleset chunk-laws = (chunk-within, chunk-rest, chunk-newline)
 
-pub ruleset line-laws = (chunk_next, line-done, line-here, line-next)
+-- no newline stands from an index up to one n bytes later, where one or the end is
+
+newline_after : (n : ℕ) (bytes : List ℕ) (at : ℕ) → at + n ≤ length bytes → ((k : ℕ) → at ≤ k → k < at + n → get_or bytes k 0 ≢ 10)
+    → (at + n < length bytes → get_or bytes (at + n) 0 ≡ 10) → line_length (drop at bytes) ≡ n
+unfolding line_length
+newline_after zero bytes at l none here =
+    ⊎_elim
+    (λ (h : at < length bytes). rw (drop-cons bytes at 0 h, eq-eqb (get_or bytes at 0) 10 (rw add-zero at (here (omega arith)))))
+    (λ (h : length bytes ≤ at). rw (drop_of_length-le bytes h))
+    (lt-or-le at (length bytes))
+newline_after (suc n) bytes at l none here =
+    let h : at < length bytes = omega arith in
+    let z : suc at + n ≡ at + suc n = omega arith in
+    let r : line_length (drop (suc at) bytes) ≡ n = newline_after n bytes (suc at) (omega arith) (λ k a b. none k (omega arith) (omega arith)) (rw z here) in
+    rw (drop-cons bytes at 0 h, ne_eqb (get_or bytes at 0) 10 (none at (omega arith) (omega arith)), r)
+
+pub line-end : (bytes : List ℕ) (at r : ℕ) → r ≤ length bytes → at ≤ r → ((k : ℕ) → at ≤ k → k < r → get_or bytes k 0 ≢ 10)
+    → (r < length bytes → get_or bytes r 0 ≡ 10) → r ≡ at + line_length (drop at bytes)
+line-end bytes at r l b none here =
+    let z : at + (r - at) ≡ r = omega arith in
+    let n : line_length (drop at bytes) ≡ r - at = newline_after (r - at) bytes at (omega arith) (λ k a c. none k a (omega arith)) (rw z here) in
+    omega arith
 
 -- ---- the line
 
@@ -118,4 +129,4 @@ module _ (bytes : List ℕ) (place start e : ℕ) (f : start ≡ min place (leng
     unfolding next_line
     next-ended k = rw (← f, same, lt-ltb e (length bytes) h, count, le-ltb text_most (e - start) k, add-one e)
 
-pub ruleset next-laws = (next-unended, next-over, next-ended)
+pub ruleset next_laws = (next-unended, next-over, next-ended)

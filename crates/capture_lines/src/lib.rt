@@ -5,7 +5,7 @@ ghost use Rattle.std.specs.Prelude.{◌≡◌, ◌≤◌, ltb, length};
 ghost use Rattle.capture_lines.specs.Lines.{line_length, next_line};
 ghost use Rattle.capture_lines.specs.Inner.Newlines.{newline_from};
 
-use bits::choice::lesser;
+use text::lines::line_end;
 
 // The most bytes of a line, without its newline.
 pub const TEXT_MOST: usize = 8266;
@@ -21,15 +21,13 @@ pub enum NextLine {
 }
 
 // Whether there is a newline. It looks at every byte, even behind a newline, so that it looks at many at once; found:
-// whether one stands before index i.
+// whether one stands before the next byte.
 fn has_newline(bytes: &[u8]) -> bool
     ensures { result ≡ ltb (line_length bytes.now) (length bytes.now) }
 {
     let mut found = false;
-    let mut i: usize = 0;
-    while i < bytes.len() {
-        found = found | (bytes[i] == b'\n');
-        i += 1;
+    for b in bytes {
+        found |= *b == b'\n';
     }
     found
 }
@@ -45,42 +43,35 @@ fn skipped_from(bytes: &[u8], from: usize) -> usize
     ensures newline { newline_from bytes.now result ≡ newline_from bytes.now from }
 {
     let mut i = from;
-    while CHUNK <= bytes.len() - i {
-        let e = i + CHUNK;
-        if has_newline(&bytes[i..e]) {
+    for chunk in bytes[from..].chunks_exact(CHUNK) {
+        if has_newline(chunk) {
             return i;
         }
-        i = e;
+        i += CHUNK;
     }
     i
 }
 
-// The index of the first newline from index from on, or the end. No newline stands from index from up to index i.
+// The index of the first newline from index from on, or the end.
 fn newline_from(bytes: &[u8], from: usize) -> usize
     requires { from ≤ length bytes.now }
     ensures { result ≡ newline_from bytes.now from }
 {
-    let mut i = skipped_from(bytes, from);
-    while i < bytes.len() {
-        if bytes[i] == b'\n' {
-            return i;
-        }
-        i += 1;
-    }
-    i
+    line_end(bytes, skipped_from(bytes, from))
 }
 
 // The line that begins at index place, for a caller that goes through lines one by one.
+#[tactic(auto, using(crate::proofs::NewlineLaws::next_laws))]
 pub fn next_line(bytes: &[u8], place: usize) -> NextLine
     ensures { result ≡ next_line bytes.now place }
 {
-    let start = lesser(place, bytes.len());
-    let e = newline_from(bytes, start);
-    if bytes.len() <= e {
-        return NextLine::Unended { end: e };
+    let start = place.min(bytes.len());
+    let end = newline_from(bytes, start);
+    if bytes.len() <= end {
+        NextLine::Unended { end }
+    } else if TEXT_MOST < end - start {
+        NextLine::OverLong { end: end + 1 }
+    } else {
+        NextLine::Ended { end: end + 1 }
     }
-    if TEXT_MOST < e - start {
-        return NextLine::OverLong { end: e + 1 };
-    }
-    NextLine::Ended { end: e + 1 }
 }

@@ -1,15 +1,13 @@
 -- What is printed: a line for each packet line, and the totals. Document 01 shows it by its whole case, and says that
 -- "dw is 0 for Msg and Cpl". What a reader must believe: code_line, output_line and totals_line.
-use Rattle.std.specs.Prelude.{ℕ, List, ◌++◌}
+use Rattle.std.specs.Prelude.{ℕ, List, ◌++◌, Result, Ok, Err}
 use Rattle.text.specs.Decimal.{decimal_text}
 use Rattle.tlp.specs.Packets.{type_of, access_of}
 use Rattle.tlp.specs.declared.packet.Kind.{Kind}
 use Rattle.tlp.specs.declared.packet.Kind.TheVariants.{MemoryRead, MemoryWrite, IoRead, IoWrite, ConfigRead0, ConfigWrite0, ConfigRead1, ConfigWrite1, Message, MessageData, Completion, CompletionData}
 use Rattle.tlp.specs.declared.packet.Packet.{Packet}
-use Rattle.tlp_read.specs.declared.ReadAnswer.{ReadAnswer}
-use Rattle.tlp_read.specs.declared.ReadAnswer.TheVariants.{Accepted, Refused}
-use Rattle.capture_print.specs.declared.LineAnswer.{LineAnswer}
-use Rattle.capture_print.specs.declared.LineAnswer.TheVariants.{Read, Bad, Refused as Unlaid}
+use Rattle.tlp.specs.Refusals.{number}
+use Rattle.tlp.specs.declared.refusal.Refusal.{Refusal}
 use Rattle.capture_print.specs.Words.{code_key, accepted_key, tag_key, dw_key, lines_key, refused_key, newline, kind_word}
 
 -- byte 6 of a request, byte 10 of a completion
@@ -36,15 +34,10 @@ unfoldable pub packet_output : Packet → List ℕ
 packet_output p =
     accepted_key ++ (kind_word (type_of p) ++ (tag_key ++ (decimal_text (tag_in p.kind) ++ (dw_key ++ (decimal_text (access_of p).length ++ newline)))))
 
-unfoldable pub read_output : ReadAnswer → List ℕ
-read_output (Accepted p) = packet_output p
-read_output (Refused r) = code_line r.number
-
--- "any other bad line .. gives `code=13`"
-unfoldable pub output_line : LineAnswer → List ℕ
-output_line (Read answer) = read_output answer
-output_line Bad = code_line 13
-output_line (Unlaid number) = code_line number
+-- a packet, or the number that says why there is none; "any other bad line .. gives `code=13`"
+unfoldable pub output_line : Result Packet Refusal → List ℕ
+output_line (Ok p) = packet_output p
+output_line (Err r) = code_line (number r)
 
 unfoldable pub totals_line : ℕ → ℕ → List ℕ
 totals_line lines refused = lines_key ++ (decimal_text lines ++ (refused_key ++ (decimal_text refused ++ newline)))

@@ -1,10 +1,9 @@
--- For the contract of unlaid_answer.
-use Rattle.std.specs.Prelude.{ℕ, List}
-use Rattle.std.proofs.Math.Option.{Option, some, none}
-use Rattle.capture.specs.declared.packet_line.PacketLine.{PacketLine}
-use Rattle.capture.specs.declared.packet_line.PacketLine.TheVariants.{Bad, Refused}
+-- For the contract of unlaid.
+use Rattle.std.specs.Prelude.{ℕ, List, Option, Some, None}
+use Rattle.tlp.specs.declared.refusal.Refusal.{Refusal}
+use Rattle.tlp.specs.declared.refusal.Refusal.TheVariants.{OutputTooShort, BadLine}
 
 -- what there is no room for: bad digits, or the bytes that they spell
-abbrev pub unlaid_answer : Option (List ℕ) → PacketLine
-unlaid_answer none = Bad
-unlaid_answer (some bytes) = Refused 12
+abbrev pub unlaid : Option (List ℕ) → Refusal
+unlaid None = BadLine
+unlaid (Some bytes) = OutputTooShort

@@ -1,17 +1,25 @@
-use Rattle.capture_blocks.proofs.CallReturns.{end-laws}
+use Rattle.capture_print.proofs.PrintLaws.{code-11, code-13}
+use Rattle.capture_blocks.proofs.CallReturns.{end-silent, end-silent-output, end-number, end-number-output, first-end, complete-end, unended-end, no-end}
 use Rattle.capture_blocks.proofs.end_within.Goals as goal
 
-pub returns-then-rest-eq0 : goal.returns-then-rest-eq0
-returns-then-rest-eq0 c = record { answer = search end-laws depth 12 fits 4000; output = search end-laws depth 12 fits 4000 }
-
 pub returns-in-First : goal.returns-in-First
-returns-in-First c = record { answer = search end-laws depth 12 fits 4000; output = search end-laws depth 12 fits 4000 }
+returns-in-First c =
+    let z = first-end c.args.progress c.args.rest.now c.args.out.now c.in-First.is in
+    let n = c.print_number.ensures in
+    record { answer = end-number _ _ c.args.out.now c.requires 11 code-11 0 z _ n.answer; output = end-number-output _ c.args.rest.now _ c.requires 11 code-11 0 z _ n.output }
 
-pub returns-else-rest-eq0 : goal.returns-else-rest-eq0
-returns-else-rest-eq0 c = record { answer = search end-laws depth 12 fits 4000; output = search end-laws depth 12 fits 4000 }
+pub returns-then-is_empty : goal.returns-then-is_empty
+returns-then-is_empty c =
+    let z = complete-end c.args.progress c.args.rest.now c.args.out.now _ c.in-Lines.is c.is_empty.result c.is_empty.ensures c.if-is_empty.true in
+    record { answer = end-silent _ c.args.rest.now c.args.out.now z _ c.silent.ensures; output = end-silent-output _ c.args.rest.now c.args.out.now z }
+
+pub returns-else-is_empty : goal.returns-else-is_empty
+returns-else-is_empty c =
+    let z = unended-end c.args.progress c.args.rest.now c.args.out.now _ c.in-Lines.is c.is_empty.result c.is_empty.ensures c.if-is_empty.false in
+    let n = c.print_number-else-is_empty.ensures in
+    record { answer = end-number _ _ c.args.out.now c.requires 13 code-13 1 z _ n.answer; output = end-number-output _ c.args.rest.now _ c.requires 13 code-13 1 z _ n.output }
 
 pub returns-in-Skipping : goal.returns-in-Skipping
-returns-in-Skipping c = record { answer = search end-laws depth 12 fits 4000; output = search end-laws depth 12 fits 4000 }
-
-pub returns-in-Refused : goal.returns-in-Refused
-returns-in-Refused c = record { answer = search end-laws depth 12 fits 4000; output = search end-laws depth 12 fits 4000 }
+returns-in-Skipping c =
+    let z = no-end c.args.progress c.args.rest.now c.args.out.now c.in-Skipping.is in
+    record { answer = end-silent _ c.args.rest.now c.args.out.now z _ c.silent-in-Skipping.ensures; output = end-silent-output _ c.args.rest.now c.args.out.now z }

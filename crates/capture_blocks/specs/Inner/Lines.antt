@@ -1,5 +1,5 @@
--- For the contracts of lines.rt: print_line, incomplete, line_at and decode_lines.
-use Rattle.std.specs.Prelude.{ℕ, suc, ◌+◌, ◌-◌, true, false, List, [], ◌∷◌, length, drop}
+-- For the contracts of lines.rt: print_line, line_at and decode_lines.
+use Rattle.std.specs.Prelude.{ℕ, suc, ◌+◌, ◌-◌, List, [], ◌∷◌, length, drop, Option, Some, None}
 use Rattle.bits.specs.Put.{put}
 use Rattle.text.specs.Laid.{after}
 use Rattle.tlp.specs.declared.settings.Settings.{Settings}
@@ -8,28 +8,24 @@ use Rattle.capture_print.specs.Outputs.{output_line}
 use Rattle.capture_print.specs.declared.LineAnswer.{LineAnswer}
 use Rattle.capture_decode.specs.Decode.{Decoding, no_lines, line_read, refused_count, lines_decoded}
 use Rattle.capture_blocks.specs.declared.lines.LineDone.{LineDone}
-use Rattle.capture_blocks.specs.declared.lines.Tally.{Tally}
+use Rattle.capture_blocks.specs.declared.Progress.TheVariants.{Lines}
+use Rattle.capture_blocks.specs.declared.Step.{Step}
 
 -- a line that ends before index end, and what it gave printed from index at on
 abbrev pub printed_line : LineAnswer → ℕ → ℕ → List ℕ → LineDone
 printed_line answer end at out =
-    record { complete = true; end = end; written = after at (output_line answer) out; refused = refused_count answer }
-
--- no complete line is left
-abbrev pub incomplete_line : ℕ → ℕ → LineDone
-incomplete_line place at = record { complete = false; end = place; written = at; refused = 0 }
+    record { end = end; written = after at (output_line answer) out; refused = refused_count answer }
 
 -- the first complete line, printed from index at on
-abbrev pub line_done_in : Settings → ℕ → ℕ → List (List ℕ) → LineDone
-line_done_in settings place at [] = incomplete_line place at
-line_done_in settings place at (text ∷ texts) = record {
-  complete = true;
+abbrev pub line_done_in : Settings → ℕ → ℕ → List (List ℕ) → Option LineDone
+line_done_in settings place at [] = None
+line_done_in settings place at (text ∷ texts) = Some (record {
   end = place + suc (length text);
   written = at + length (output_line (line_read settings text));
   refused = refused_count (line_read settings text);
-}
+})
 
-unfoldable pub line_done : Settings → List ℕ → ℕ → ℕ → LineDone
+unfoldable pub line_done : Settings → List ℕ → ℕ → ℕ → Option LineDone
 line_done settings bytes place at = line_done_in settings place at (complete_lines (drop place bytes))
 
 abbrev pub line_over_in : Settings → ℕ → List (List ℕ) → List ℕ → List ℕ
@@ -43,8 +39,10 @@ line_over settings bytes place at out = line_over_in settings at (complete_lines
 unfoldable pub decoded_from : Settings → List ℕ → ℕ → Decoding
 decoded_from settings bytes place = lines_decoded settings (complete_lines (drop place bytes)) no_lines
 
-unfoldable pub tally_from : Settings → List ℕ → ℕ → Tally
-tally_from settings bytes place = record {
+-- the step over them
+unfoldable pub lines_from : Settings → List ℕ → ℕ → Step
+lines_from settings bytes place = record {
+  progress = Lines settings;
   used = length bytes - length (unended (drop place bytes));
   written = length (decoded_from settings bytes place).output;
   lines = (decoded_from settings bytes place).lines;

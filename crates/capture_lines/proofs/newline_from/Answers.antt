@@ -1,12 +1,9 @@
-use Rattle.capture_lines.proofs.NewlineLaws.{line-laws}
-use borrow.Author.Rules.{rules}
+use mathlib.Core.Path.{◌∙◌}
+use Rattle.capture_lines.proofs.NewlineLaws.{line-end}
 use Rattle.capture_lines.proofs.newline_from.Goals as goal
 
-pub returns-then-bytes-i-eq10 : goal.returns-then-bytes-i-eq10
-returns-then-bytes-i-eq10 c = search line-laws
-
-pub loop-i-preserved : goal.loop-i-preserved
-loop-i-preserved c = (search rules, search line-laws)
-
 pub returns : goal.returns
-returns c = search line-laws
+returns c =
+    let e = c.line_end.ensures in
+    let s = c.skipped_from.ensures in
+    line-end c.args.bytes.now c.skipped_from.result c.line_end.result e.within (e.behind s.within) e.before e.newline ∙ s.newline

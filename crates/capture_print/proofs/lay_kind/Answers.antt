@@ -1,4 +1,0 @@
-use Rattle.capture_print.proofs.lay_kind.Goals as goal
-
-pub returns : goal.returns
-returns c = record { answer = cc; output = cc }
