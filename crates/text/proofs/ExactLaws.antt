@@ -1,7 +1,6 @@
 -- What reads as a value is the text of that value: the converse of RoundTrips.
-use Rattle.std.proofs.Common.{◌≡◌, ℕ, zero, suc, ◌+◌, ◌*◌, ◌/◌, ◌%◌, ◌^◌, ◌<◌, ◌≤◌, true, false, not, ◌&&◌, eqb, ltb, leb, List, [], ◌∷◌, ◌++◌, length, sym, refl, ap, ◌∙◌, ⊎_elim, append_assoc, append-nil, le_trans, mul-le-mul_right, mul_assoc, mul_comm, pow-suc, arith, ltb-true, eq-eqb, ne_eqb, eqb-true, leb-true}
+use Rattle.std.proofs.Common.{◌≡◌, ℕ, zero, suc, ◌+◌, ◌*◌, ◌/◌, ◌%◌, ◌^◌, ◌<◌, ◌≤◌, true, false, not, ◌&&◌, eqb, ltb, leb, List, [], ◌∷◌, ◌++◌, length, sym, refl, ap, ◌∙◌, ⊎_elim, append_assoc, append-nil, le_trans, mul-le-mul_right, mul_assoc, mul_comm, pow-suc, arith, ltb-true, eq-eqb, ne_eqb, eqb-true, leb-true, Some}
 use mathlib.Core.Bool.{false≢true}
-use mathlib.Core.Option.{some, none}
 use native.Mathlib.Nat.{pow-zero, pow-le-pow_right}
 use lib.Arith.{digits_div, digits_mod}
 use borrow.Author.Tests.{not-true}
@@ -10,13 +9,12 @@ use Rattle.text.specs.Digit.{hex_value, hex_digit, all_digits}
 use Rattle.text.specs.Number.{value_from, value, plain, plainly, empty, number_in, digits, digit_count, plain_text}
 use Rattle.text.specs.Hex.{hex_number, pairs, bytes_spelled, hex_text}
 use Rattle.text.specs.Decimal.{decimal_number, decimal_text}
-use Rattle.text.specs.declared.number.Parsed.TheVariants.{Number, Bad}
 use Rattle.text.proofs.Order.{lt-or-le, and_left, and_right}
 use Rattle.text.proofs.DigitLaws.{value-below, value-number, value-between, value-letter, value-above, digit-number, digit-letter}
 use Rattle.text.proofs.NumberLaws.{in-64, one_power}
 use Rattle.text.proofs.HexLaws.{value-lt}
 use Rattle.text.proofs.RoundTrips.{count-power, count-le, count-one}
-use Rattle.text.proofs.Bounds.{picked, number-good, number_is}
+use Rattle.text.proofs.Bounds.{picked}
 
 -- ---- one digit
 
@@ -109,22 +107,22 @@ module _ (base : ℕ) (p : 1 < base) (q : base ≤ 16) where
 -- ---- numbers
 
 -- a decimal that reads as n is the text of n
-pub decimal-is : (most n : ℕ) (text : List ℕ) → most < 2 ^ 64 → decimal_number most text ≡ Number n → (text ≡ decimal_text n) × (n ≤ most)
+pub decimal-is : (most n : ℕ) (text : List ℕ) → most < 2 ^ 64 → decimal_number most text ≡ Some n → (text ≡ decimal_text n) × (n ≤ most)
 unfolding plainly number_in
 decimal-is most n text m e =
-    let g = picked Bad (number_in 10 most text) (plain text) (Number n) e (number-good n) in
-    let f = picked Bad (Number (value 10 text)) (not (empty text) && (all_digits 10 text && leb (value 10 text) most)) (Number n) g.1 (number-good n) in
-    let v : value 10 text ≡ n = number_is (value 10 text) n f.1 in
+    let g = picked (plain text) (number_in 10 most text) n e in
+    let f = picked (not (empty text) && (all_digits 10 text && leb (value 10 text) most)) (Some (value 10 text)) n g.1 in
+    let v : value 10 text ≡ n = cc f.1 in
     let r = and_right (not (empty text)) _ f.0 in
     let l : value 10 text ≤ most = leb-true (value 10 text) most (and_right (all_digits 10 text) _ r) in
     (rw (← v) (plain-all 10 (omega arith) (omega arith) text (not-true (empty text) (and_left _ _ f.0)) g.0 (and_left _ _ r) (omega (arith, l))), rw (← v) l)
 
 -- a number of hexadecimal digits is written with so many of them
-pub hex-is : (n : ℕ) (text : List ℕ) → hex_number text ≡ Number n → (text ≡ digits 16 (length text) n) × (n < 16 ^ length text)
+pub hex-is : (n : ℕ) (text : List ℕ) → hex_number text ≡ Some n → (text ≡ digits 16 (length text) n) × (n < 16 ^ length text)
 unfolding hex_number
 hex-is n text e =
-    let f = picked Bad (Number (value 16 text)) (not (empty text) && (leb (length text) 16 && all_digits 16 text)) (Number n) e (number-good n) in
-    let v : value 16 text ≡ n = number_is (value 16 text) n f.1 in
+    let f = picked (not (empty text) && (leb (length text) 16 && all_digits 16 text)) (Some (value 16 text)) n e in
+    let v : value 16 text ≡ n = cc f.1 in
     let a : all_digits 16 text ≡ true = and_right (leb (length text) 16) _ (and_right (not (empty text)) _ f.0) in
     (sym (rw v at (digits-all 16 (omega arith) (omega arith) text a)), omega (arith, v, value-lt 16 0 text a))
 
@@ -148,9 +146,9 @@ text-pairs (x ∷ y ∷ text) z a =
     first b bytes h t (suc i) l = t i (omega arith)
 
 -- what spells bytes is their text
-pub bytes-is : (text bytes : List ℕ) → bytes_spelled text ≡ some bytes → (text ≡ hex_text bytes) × AllBytes bytes
+pub bytes-is : (text bytes : List ℕ) → bytes_spelled text ≡ Some bytes → (text ≡ hex_text bytes) × AllBytes bytes
 unfolding bytes_spelled
 bytes-is text bytes e =
-    let f = picked none (some (pairs text)) (eqb (length text % 2) 0 && all_digits 16 text) (some bytes) e (λ (b : none ≡ some bytes). let z : ◌≡◌ {A = ℕ} 0 1 = cc in omega arith) in
+    let f = picked (eqb (length text % 2) 0 && all_digits 16 text) (Some (pairs text)) bytes e in
     let q : pairs text ≡ bytes = cc f.1 in
     rw (← q) (text-pairs text (eqb-true (length text % 2) 0 (and_left _ _ f.0)) (and_right (eqb (length text % 2) 0) _ f.0))

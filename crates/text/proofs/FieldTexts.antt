@@ -1,5 +1,5 @@
 -- What the fields of a line say of its text: a good field is its key, then the text of its value; and where those stand, the field is good.
-use Rattle.std.proofs.Common.{◌≡◌, ℕ, suc, ◌+◌, ◌-◌, ◌^◌, ◌<◌, ◌≤◌, min, Bool, true, false, eqb, ltb, leb, List, [], ◌∷◌, ◌++◌, length, drop, sym, refl, ap, ◌∙◌, arith, length-append, length-drop, take-append-drop, drop-drop, ltb-true, eq-eqb, eqb-true, le-leb}
+use Rattle.std.proofs.Common.{◌≡◌, ℕ, suc, ◌+◌, ◌-◌, ◌^◌, ◌<◌, ◌≤◌, min, Bool, true, false, eqb, ltb, leb, List, [], ◌∷◌, ◌++◌, length, drop, sym, refl, ap, ◌∙◌, arith, length-append, length-drop, take-append-drop, drop-drop, ltb-true, eq-eqb, eqb-true, le-leb, Option, Some, None}
 use mathlib.Core.Bool.{false≢true}
 use native.Mathlib.Nat.{add-sub_cancel_left}
 use lib.Seq.{take-append_seam, drop-append_seam}
@@ -9,15 +9,12 @@ use Rattle.text.specs.Number.{digits, digit_count}
 use Rattle.text.specs.Decimal.{decimal_number, decimal_text}
 use Rattle.text.specs.Hex.{hex_number}
 use Rattle.text.specs.Words.{part, word_length, word_end, begins_with, starts_with, value_at}
-use Rattle.text.specs.Fields.{bad_field, parsed_field, parsed_in, fixed_hex, decimal_after, hex_after, key_after}
-use Rattle.text.specs.declared.number.Parsed.{Parsed}
-use Rattle.text.specs.declared.number.Parsed.TheVariants.{Number, Bad}
-use Rattle.text.specs.declared.words.Value.{Value}
-use Rattle.text.specs.declared.words.Value.TheVariants.{Found, Missing}
+use Rattle.text.specs.Fields.{read_after, fixed_hex, decimal_after, hex_after, key_after}
+use Rattle.text.specs.declared.words.Place.{Place}
 use Rattle.text.specs.declared.fields.Field.{Field}
 use Rattle.text.proofs.Order.{and_left, and_right}
 use Rattle.text.proofs.NumberLaws.{length_digits}
-use Rattle.text.proofs.Bounds.{picked, found-good, found-bounds, number-good}
+use Rattle.text.proofs.Bounds.{picked, found-bounds, read-is}
 use Rattle.text.proofs.RoundTrips.{digits-good, decimal-trip, hex-fixed-trip}
 use Rattle.text.proofs.ExactLaws.{digit-no-space, decimal-is, hex-is}
 
@@ -73,16 +70,17 @@ end_rest line at h =
     rw (m, ← drop-drop (word_length (drop at line)) at line) (rest-word (drop at line))
 
 -- a value that is found is what stands part its key and the rest
-found-is : (line key : List ℕ) (at from to : ℕ) → value_at line at key ≡ Found from to
-    → (drop at line ≡ key ++ (part line from to ++ drop to line)) × (to ≤ length line) × (word_length (drop to line) ≡ 0)
+found-is : (line key : List ℕ) (at : ℕ) (p : Place) → value_at line at key ≡ Some p
+    → (drop at line ≡ key ++ (part line p.from p.to ++ drop p.to line)) × (p.to ≤ length line) × (word_length (drop p.to line) ≡ 0)
 unfolding value_at
-found-is line key at from to e =
-    let f = picked Missing (Found (at + length key) (word_end line (at + length key))) (starts_with line at key) (Found from to) e (found-good from to) in
-    let b = found-bounds line key at from to (value_at line at key) refl e in
-    let w : word_end line (at + length key) ≡ to = cc f.1 in
-    let z : from + (to - from) ≡ to = omega (arith, b.1.0) in
-    let d : drop (to - from) (drop from line) ≡ drop to line = drop-drop (to - from) from line ∙ ap (λ (n : ℕ). drop n line) z in
-    let t : part line from to ++ drop to line ≡ drop from line = rw (← d) (take-append-drop (to - from) (drop from line)) in
+found-is line key at p e =
+    let f = picked (starts_with line at key) (Some (record { from = at + length key; to = word_end line (at + length key) })) p e in
+    let b = found-bounds line key at p e in
+    let g : record { from = at + length key; to = word_end line (at + length key) } ≡ p = cc f.1 in
+    let w : word_end line (at + length key) ≡ p.to = ap (λ (q : Place). q.to) g in
+    let z : p.from + (p.to - p.from) ≡ p.to = omega (arith, b.1.0) in
+    let d : drop (p.to - p.from) (drop p.from line) ≡ drop p.to line = drop-drop (p.to - p.from) p.from line ∙ ap (λ (n : ℕ). drop n line) z in
+    let t : part line p.from p.to ++ drop p.to line ≡ drop p.from line = rw (← d) (take-append-drop (p.to - p.from) (drop p.from line)) in
     (rw (t, ← b.0) (starts_is line key at f.0), b.1.1, rw (← w) (end_rest line (at + length key) (omega (arith, b.0, b.1.0, b.1.1))))
 
 -- digits hold no space, so a word of digits ends where a rest begins that is empty or begins with a space
@@ -107,7 +105,7 @@ module _ (line key d rest : List ℕ) (at : ℕ) (h : at ≤ length line) (e : d
   value_after : drop (at + length key + length d) line ≡ rest
   value_after = sym (drop-drop (length d) (at + length key) line) ∙ rw after-key (drop-append_seam d rest)
 
-  value-is : word_length (d ++ rest) ≡ length d → value_at line at key ≡ Found (at + length key) (at + length key + length d)
+  value-is : word_length (d ++ rest) ≡ length d → value_at line at key ≡ Some (record { from = at + length key; to = at + length key + length d })
   unfolding value_at word_end
   value-is w =
       let m : min (at + length key) (length line) ≡ at + length key = omega (arith, value-size) in
@@ -115,97 +113,76 @@ module _ (line key d rest : List ℕ) (at : ℕ) (h : at ≤ length line) (e : d
 
 -- ---- fields
 
--- a field that is good, and the text that follows it
-abbrev pub Stands : List ℕ → Field → List ℕ → Type 0
-Stands line f rest = (f.good ≡ true) × ((f.next ≤ length line) × (drop f.next line ≡ rest))
+-- the text that stands in a line from index at on
+abbrev pub Stands : List ℕ → ℕ → List ℕ → Type 0
+Stands line at rest = (at ≤ length line) × (drop at line ≡ rest)
 
--- the field f after before: its key, then the text of its value, then a rest that is empty or begins with a space
-abbrev pub Says : List ℕ → List ℕ → Field → (ℕ → List ℕ) → Field → Type 0
-Says line key before text f = (drop before.next line ≡ key ++ (text f.value ++ drop f.next line)) × (f.next ≤ length line) × (word_length (drop f.next line) ≡ 0)
+-- the field f from index at on: its key, then the text of its value, then a rest that is empty or begins with a space
+abbrev pub Says : List ℕ → List ℕ → ℕ → (ℕ → List ℕ) → Field → Type 0
+Says line key at text f = (drop at line ≡ key ++ (text f.value ++ drop f.next line)) × (f.next ≤ length line) × (word_length (drop f.next line) ≡ 0)
 
-picked-field : (t : Bool) (f : Field) → (pick t f bad_field).good ≡ true → (t ≡ true) × (f.good ≡ true)
-picked-field true f g = (refl, g)
-picked-field false f g = absurd (false≢true g)
+module _ (line key : List ℕ) (at : ℕ) where
+  read-says : (parse : List ℕ → Option ℕ) (text : ℕ → List ℕ) (f : Field) → ((word : List ℕ) → parse word ≡ Some f.value → word ≡ text f.value)
+      → read_after parse line at key ≡ Some f → Says line key at text f
+  read-says parse text f g e =
+      let r = read-is parse line key at f e in
+      let w = found-is line key at r.0 r.1.0 in
+      rw (← r.1.1.1, ← g (part line r.0.from r.0.to) r.1.1.0) w
 
-module _ (line key : List ℕ) (before : Field) where
-  parsed-says : (text : ℕ → List ℕ) (from to : ℕ) (p : Parsed) → value_at line before.next key ≡ Found from to → ((n : ℕ) → p ≡ Number n → part line from to ≡ text n) → (parsed_field p to).good ≡ true → Says line key before text (parsed_field p to)
-  parsed-says text from to (Number n) d f g =
-      let w = found-is line key before.next from to d in
-      (rw (← f n refl) w.0, w.1, w.2)
-  parsed-says text from to Bad d f g = absurd (false≢true g)
+  pub decimal-says : (most : ℕ) → most < 2 ^ 64 → (f : Field) → decimal_after line at key most ≡ Some f → Says line key at decimal_text f
+  unfolding decimal_after
+  decimal-says most m f e = read-says (decimal_number most) decimal_text f (λ (word : List ℕ) (h : decimal_number most word ≡ Some f.value). (decimal-is most f.value word m h).0) e
 
-  module _ (most : ℕ) where
-    decimal-in : most < 2 ^ 64 → (v : Value) → value_at line before.next key ≡ v → (parsed_in (decimal_number most) line v).good ≡ true → Says line key before decimal_text (parsed_in (decimal_number most) line v)
-    decimal-in m (Found from to) d g = parsed-says decimal_text from to (decimal_number most (part line from to)) d (λ (n : ℕ) (h : decimal_number most (part line from to) ≡ Number n). (decimal-is most n (part line from to) m h).0) g
-    decimal-in m Missing d g = absurd (false≢true g)
+  pub hex-says : (width : ℕ) (f : Field) → hex_after line at key width ≡ Some f → Says line key at (digits 16 width) f
+  unfolding hex_after
+  hex-says width f e =
+      read-says (fixed_hex width) (digits 16 width) f
+      (λ (word : List ℕ) (h : fixed_hex width word ≡ Some f.value).
+      let g = picked (eqb (length word) width) (hex_number word) f.value h in
+      rw (← eqb-true (length word) width g.0) (hex-is f.value word g.1).0)
+      e
 
-    pub decimal-says : most < 2 ^ 64 → (decimal_after line before key most).good ≡ true → (before.good ≡ true) × Says line key before decimal_text (decimal_after line before key most)
-    unfolding decimal_after
-    decimal-says m g =
-        let v = value_at line before.next key in
-        let f = picked-field before.good (parsed_in (decimal_number most) line v) g in
-        (f.0, rw f.0 (decimal-in m v refl f.1))
+  -- and where a value's text d stands, the field is that value
+  module _ (d rest : List ℕ) (st : Stands line at (key ++ (d ++ rest))) where
+    read-stands : (parse : List ℕ → Option ℕ) (n : ℕ) → word_length (d ++ rest) ≡ length d → parse d ≡ Some n
+        → (read_after parse line at key ≡ Some (record { value = n; next = at + length key + length d })) × Stands line (at + length key + length d) rest
+    read-stands parse n w e = (rw (value-is line key d rest at st.0 st.1 w, value-part line key d rest at st.0 st.1, e), (value-size line key d rest at st.0 st.1, value_after line key d rest at st.0 st.1))
 
-    pub decimal-stands : (n : ℕ) (rest : List ℕ) → n ≤ most → n < 2 ^ 64 → word_length rest ≡ 0 → Stands line before (key ++ (decimal_text n ++ rest))
-        → Stands line (decimal_after line before key most) rest × ((decimal_after line before key most).value ≡ n)
-    unfolding decimal_after
-    decimal-stands n rest h l z st =
-        let d = decimal_text n in
-        let k = st.1.0 in
-        let e = st.1.1 in
-        let w = word-digits 10 d rest (omega arith) (digits-good 10 (omega arith) (omega arith) (digit_count 10 n) n) z in
-        let to = before.next + length key + length d in
-        let f : pick before.good (parsed_in (decimal_number most) line (value_at line before.next key)) bad_field ≡ record { good = true; value = n; next = to } = rw (st.0, value-is line key d rest before.next k e w, value-part line key d rest before.next k e, decimal-trip most n h l) in
-        rw f ((refl, (value-size line key d rest before.next k e, value_after line key d rest before.next k e)), refl)
+  pub decimal-stands : (most n : ℕ) (rest : List ℕ) → n ≤ most → n < 2 ^ 64 → word_length rest ≡ 0 → Stands line at (key ++ (decimal_text n ++ rest))
+      → (decimal_after line at key most ≡ Some (record { value = n; next = at + length key + length (decimal_text n) })) × Stands line (at + length key + length (decimal_text n)) rest
+  unfolding decimal_after
+  decimal-stands most n rest h l z st =
+      let w = word-digits 10 (decimal_text n) rest (omega arith) (digits-good 10 (omega arith) (omega arith) (digit_count 10 n) n) z in
+      read-stands (decimal_text n) rest st (decimal_number most) n w (decimal-trip most n h l)
 
-  module _ (width : ℕ) where
-    hex-in : (v : Value) → value_at line before.next key ≡ v → (parsed_in (fixed_hex width) line v).good ≡ true → Says line key before (digits 16 width) (parsed_in (fixed_hex width) line v)
-    hex-in (Found from to) d g =
-        let b = part line from to in
-        parsed-says (digits 16 width) from to (fixed_hex width b) d (λ (n : ℕ) (h : fixed_hex width b ≡ Number n).
-        let f = picked Bad (hex_number b) (eqb (length b) width) (Number n) h (number-good n) in
-        rw (← eqb-true (length b) width f.0) (hex-is n b f.1).0) g
-    hex-in Missing d g = absurd (false≢true g)
-
-    pub hex-says : (hex_after line before key width).good ≡ true → (before.good ≡ true) × Says line key before (digits 16 width) (hex_after line before key width)
-    unfolding hex_after
-    hex-says g =
-        let v = value_at line before.next key in
-        let f = picked-field before.good (parsed_in (fixed_hex width) line v) g in
-        (f.0, rw f.0 (hex-in v refl f.1))
-
-    pub hex-stands : (n : ℕ) (rest : List ℕ) → 0 < width → width ≤ 16 → n < 16 ^ width → word_length rest ≡ 0 → Stands line before (key ++ (digits 16 width n ++ rest))
-        → Stands line (hex_after line before key width) rest × ((hex_after line before key width).value ≡ n)
-    unfolding hex_after
-    hex-stands n rest p q l z st =
-        let d = digits 16 width n in
-        let k = st.1.0 in
-        let e = st.1.1 in
-        let w = word-digits 16 d rest (omega arith) (digits-good 16 (omega arith) (omega arith) width n) z in
-        let to = before.next + length key + length d in
-        let c : eqb (length d) width ≡ true = eq-eqb (length d) width (sym (length_digits 16 width n)) in
-        let f : pick before.good (parsed_in (fixed_hex width) line (value_at line before.next key)) bad_field ≡ record { good = true; value = n; next = to } = rw (st.0, value-is line key d rest before.next k e w, value-part line key d rest before.next k e, c, hex-fixed-trip width n p q l) in
-        rw f ((refl, (value-size line key d rest before.next k e, value_after line key d rest before.next k e)), refl)
+  pub hex-stands : (width n : ℕ) (rest : List ℕ) → 0 < width → width ≤ 16 → n < 16 ^ width → word_length rest ≡ 0 → Stands line at (key ++ (digits 16 width n ++ rest))
+      → (hex_after line at key width ≡ Some (record { value = n; next = at + length key + width })) × Stands line (at + length key + width) rest
+  unfolding hex_after
+  hex-stands width n rest p q l z st =
+      let d = digits 16 width n in
+      let w = word-digits 16 d rest (omega arith) (digits-good 16 (omega arith) (omega arith) width n) z in
+      let e : width ≡ length d = length_digits 16 width n in
+      let c : eqb (length d) width ≡ true = eq-eqb (length d) width (sym e) in
+      let r = read-stands d rest st (fixed_hex width) n w (rw c (hex-fixed-trip width n p q l)) in
+      rw (← e) at r
 
   -- a key alone
 
-  pub key-says : (key_after line before key).good ≡ true → (before.good ≡ true) × (drop before.next line ≡ key ++ drop (key_after line before key).next line)
+  pub key-says : (next : ℕ) → key_after line at key ≡ Some next → drop at line ≡ key ++ drop next line
   unfolding key_after
-  key-says g =
-      let found : Field = record { good = true; value = 0; next = before.next + length key } in
-      let f = picked-field before.good (pick (starts_with line before.next key) found bad_field) g in
-      let h = picked-field (starts_with line before.next key) found f.1 in
-      (f.0, rw (f.0, h.0) (starts_is line key before.next h.0))
+  key-says next e =
+      let f = picked (starts_with line at key) (Some (at + length key)) next e in
+      let n : at + length key ≡ next = cc f.1 in
+      rw n at (starts_is line key at f.0)
 
-  pub key-stands : (rest : List ℕ) → Stands line before (key ++ rest) → Stands line (key_after line before key) rest
+  pub key-stands : (rest : List ℕ) → Stands line at (key ++ rest) → (key_after line at key ≡ Some (at + length key)) × Stands line (at + length key) rest
   unfolding key_after
   key-stands rest st =
-      let at = before.next in
-      let l : at + length key ≤ length line = omega (arith, st.1.0, length-drop at line, ap (λ (t : List ℕ). length t) st.1.1, length-append key rest) in
-      let d : drop (at + length key) line ≡ rest = sym (drop-drop (length key) at line) ∙ rw st.1.1 (drop-append_seam key rest) in
-      rw (st.0, starts-all line key at rest st.1.0 st.1.1) (refl, (l, d))
+      let l : at + length key ≤ length line = omega (arith, st.0, length-drop at line, ap (λ (t : List ℕ). length t) st.1, length-append key rest) in
+      let d : drop (at + length key) line ≡ rest = sym (drop-drop (length key) at line) ∙ rw st.1 (drop-append_seam key rest) in
+      (rw (starts-all line key at rest st.0 st.1), (l, d))
 
   -- another text stands there
-  pub key-absent : (rest : List ℕ) → Stands line before rest → begins_with key rest ≡ false → (key_after line before key).good ≡ false
+  pub key-absent : (rest : List ℕ) → Stands line at rest → begins_with key rest ≡ false → key_after line at key ≡ None
   unfolding key_after starts_with
-  key-absent rest st e = rw (st.0, le-leb before.next (length line) st.1.0, st.1.1, e)
+  key-absent rest st e = rw (le-leb at (length line) st.0, st.1, e)

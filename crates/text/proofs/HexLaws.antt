@@ -1,7 +1,6 @@
 -- Hexadecimal: one law for each place of the code.
-use Rattle.std.proofs.Common.{◌≡◌, ℕ, zero, suc, ◌+◌, ◌-◌, ◌*◌, ◌/◌, ◌%◌, ◌^◌, ◌<◌, ◌≤◌, min, Bool, true, false, not, ◌&&◌, eqb, ltb, leb, List, [], ◌∷◌, length, get_or, take, drop, set, sym, refl, ap, ◌∙◌, lt_of_lt_of_le, mul-le-mul_right, zero-lt-suc, mul_assoc, mul_comm, pow-suc, add-one, arith, length-set, drop_of_length-le, length-take, take_all, drop-cons, ltb-true, eq-eqb, ne_eqb, le-leb}
+use Rattle.std.proofs.Common.{◌≡◌, ℕ, zero, suc, ◌+◌, ◌-◌, ◌*◌, ◌/◌, ◌%◌, ◌^◌, ◌<◌, ◌≤◌, min, Bool, true, false, not, ◌&&◌, eqb, ltb, leb, List, [], ◌∷◌, length, get_or, take, drop, set, sym, refl, ap, ◌∙◌, lt_of_lt_of_le, mul-le-mul_right, zero-lt-suc, mul_assoc, mul_comm, pow-suc, add-one, arith, length-set, drop_of_length-le, length-take, take_all, drop-cons, ltb-true, eq-eqb, ne_eqb, le-leb, Option, Some, None}
 use mathlib.Core.Bool.{and-false}
-use mathlib.Core.Option.{Option, some, none}
 use native.Mathlib.Nat.{sub-zero, pow-zero, pow-le-pow_right}
 use borrow.Author.Tests.{lt-leb, not-true, not-false}
 use Rattle.text.specs.Digit.{hex_value, hex_digit, all_digits}
@@ -10,10 +9,6 @@ use Rattle.bits.specs.Put.{put}
 use Rattle.text.specs.Laid.{laid}
 use Rattle.text.specs.Number.{value_from, value, empty, number_in}
 use Rattle.text.specs.Hex.{hex_number, pairs, bytes_spelled, spelled_answer, spelled_over, front_answer, front_over, hex_text}
-use Rattle.text.specs.declared.number.Parsed.{Parsed}
-use Rattle.text.specs.declared.number.Parsed.TheVariants.{Bad}
-use Rattle.text.specs.declared.hex.Spelled.{Spelled}
-use Rattle.text.specs.declared.hex.Spelled.TheVariants.{Bytes, Bad as NoBytes}
 use Rattle.text.proofs.Order.{and_left, and_right}
 use Rattle.text.proofs.PutLaws.{put_first, put-done}
 use Rattle.text.proofs.DigitLaws.{digit-small, digits-rest}
@@ -37,11 +32,11 @@ fits-or-not true text a l =
 fits-or-not false text a l = rw a
 
 module _ (text : List ℕ) where
-  pub hex-long : 16 < length text → Bad ≡ hex_number text
+  pub hex-long : 16 < length text → None ≡ hex_number text
   unfolding hex_number
   hex-long h = rw (lt-leb (length text) 16 h, and-false (not (empty text)))
 
-  pub hex-short : (r : Parsed) → length text ≤ 16 → r ≡ number_in 16 18446744073709551615 text → r ≡ hex_number text
+  pub hex-short : (r : Option ℕ) → length text ≤ 16 → r ≡ number_in 16 18446744073709551615 text → r ≡ hex_number text
   unfolding hex_number number_in
   hex-short r h e = e ∙ rw (le-leb (length text) 16 h, fits-or-not (all_digits 16 text) text refl h)
 
@@ -129,16 +124,16 @@ pub ruleset pair-laws = (pair-start, high_fits, pair_fits, pair-next, digits-nex
 -- what is answered, and what out holds then
 
 module _ (text : List ℕ) where
-  pub spells-odd : (length text % 2 ≡ 0 → ⊥) → bytes_spelled text ≡ none
+  pub spells-odd : (length text % 2 ≡ 0 → ⊥) → bytes_spelled text ≡ None
   unfolding bytes_spelled
   spells-odd h = rw (ne_eqb (length text % 2) 0 h)
 
   module _ (r : Bool) (e : r ≡ all_digits 16 text) where
-    pub spells-bad : not r ≡ true → bytes_spelled text ≡ none
+    pub spells-bad : not r ≡ true → bytes_spelled text ≡ None
     unfolding bytes_spelled
     spells-bad h = rw (← e, not-true r h, and-false (eqb (length text % 2) 0))
 
-    pub spells-good : length text % 2 ≡ 0 → not r ≡ false → bytes_spelled text ≡ some (pairs text)
+    pub spells-good : length text % 2 ≡ 0 → not r ≡ false → bytes_spelled text ≡ Some (pairs text)
     unfolding bytes_spelled
     spells-good z h = rw (eq-eqb (length text % 2) 0 z, ← e, not-false r h)
 
@@ -153,19 +148,19 @@ pub front_length : (most : ℕ) (text : List ℕ) → length (take most (pairs t
 front_length most text = rw (length_pairs text) (length-take most (pairs text))
 
 module _ (most : ℕ) (o : Option (List ℕ)) (out : List ℕ) where
-  pub answer-none : o ≡ none → NoBytes ≡ front_answer most o out
+  pub answer-none : o ≡ None → None ≡ front_answer most o out
   unfolding front_answer
   answer-none h = rw h
 
-  pub over_none : o ≡ none → out ≡ front_over most o out
+  pub over_none : o ≡ None → out ≡ front_over most o out
   unfolding front_over
   over_none h = rw h
 
-  module _ (text : List ℕ) (n : ℕ) (e : o ≡ some (pairs text)) (f : n ≡ min most (length text / 2)) where
+  module _ (text : List ℕ) (n : ℕ) (e : o ≡ Some (pairs text)) (f : n ≡ min most (length text / 2)) where
     size : length (take most (pairs text)) ≡ n
     size = front_length most text ∙ sym f
 
-    pub answer-short : length out < n → NoBytes ≡ front_answer most o out
+    pub answer-short : length out < n → None ≡ front_answer most o out
     unfolding front_answer
     answer-short h = rw (e, lt-leb (0 + length (take most (pairs text))) (length out) (omega (arith, size)))
 
@@ -174,7 +169,7 @@ module _ (most : ℕ) (o : Option (List ℕ)) (out : List ℕ) where
     over-short h = rw (e, lt-leb (0 + length (take most (pairs text))) (length out) (omega (arith, size)))
 
     module _ (h : n ≤ length out) where
-      pub answer-whole : Bytes (length text / 2) ≡ front_answer most o out
+      pub answer-whole : Some (length text / 2) ≡ front_answer most o out
       unfolding front_answer
       answer-whole = rw (e, le-leb (0 + length (take most (pairs text))) (length out) (omega (arith, size)), length_pairs text)
 
@@ -197,11 +192,11 @@ module _ (text out : List ℕ) where
   all-front : take (length text) (pairs text) ≡ pairs text
   all-front = take_all (length text) (pairs text) (omega (arith, length_pairs text))
 
-  pub answer-all : (r : Spelled) → r ≡ front_answer (length text) (bytes_spelled text) out → r ≡ spelled_answer (bytes_spelled text) out
+  pub answer-all : (r : Option ℕ) → r ≡ front_answer (length text) (bytes_spelled text) out → r ≡ spelled_answer (bytes_spelled text) out
   unfolding bytes_spelled front_answer spelled_answer
   answer-all r q = q ∙ by (eqb (length text % 2) 0 && all_digits 16 text)
     where
-      by : (t : Bool) → front_answer (length text) (pick t (some (pairs text)) none) out ≡ spelled_answer (pick t (some (pairs text)) none) out
+      by : (t : Bool) → front_answer (length text) (pick t (Some (pairs text)) None) out ≡ spelled_answer (pick t (Some (pairs text)) None) out
       by true = rw all-front
       by false = refl
 
@@ -209,7 +204,7 @@ module _ (text out : List ℕ) where
   unfolding bytes_spelled front_over spelled_over
   over-all last q = q ∙ by (eqb (length text % 2) 0 && all_digits 16 text)
     where
-      by : (t : Bool) → front_over (length text) (pick t (some (pairs text)) none) out ≡ spelled_over (pick t (some (pairs text)) none) out
+      by : (t : Bool) → front_over (length text) (pick t (Some (pairs text)) None) out ≡ spelled_over (pick t (Some (pairs text)) None) out
       by true = rw all-front
       by false = refl
 

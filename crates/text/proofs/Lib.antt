@@ -4,7 +4,6 @@ pub mod DigitLaws
 pub mod NumberLaws
 pub mod HexLaws
 pub mod WordLaws
-pub mod FieldLaws
 pub mod RoundTrips
 pub mod BufferLaws
 pub mod Bounds

@@ -1,5 +1,5 @@
 -- Numbers in a base: one law for each place of the code that reads or prints one.
-use Rattle.std.proofs.Common.{◌≡◌, ℕ, zero, suc, ◌+◌, ◌-◌, ◌*◌, ◌/◌, ◌%◌, ◌^◌, ◌<◌, ◌≤◌, Bool, true, false, not, ◌&&◌, eqb, ltb, leb, List, [], ◌∷◌, ◌++◌, length, get_or, drop, set, sym, refl, ap, ◌∙◌, le_trans, le_refl, lt_of_lt_of_le, mod-lt, mod-eq_of_lt, div-lt_iff_lt-mul, mul-le-mul_left, pow-suc, div-le_self, add-one, arith, length-append, drop_of_length-le, drop-cons, ltb-false, ltb-true, le-ltb, lt-ltb, le-leb}
+use Rattle.std.proofs.Common.{◌≡◌, ℕ, zero, suc, ◌+◌, ◌-◌, ◌*◌, ◌/◌, ◌%◌, ◌^◌, ◌<◌, ◌≤◌, Bool, true, false, not, ◌&&◌, eqb, ltb, leb, List, [], ◌∷◌, ◌++◌, length, get_or, drop, set, sym, refl, ap, ◌∙◌, le_trans, le_refl, lt_of_lt_of_le, mod-lt, mod-eq_of_lt, div-lt_iff_lt-mul, mul-le-mul_left, pow-suc, div-le_self, add-one, arith, length-append, drop_of_length-le, drop-cons, ltb-false, ltb-true, le-ltb, lt-ltb, le-leb, Option, Some, None}
 use mathlib.Core.Bool.{and-false}
 use native.Mathlib.Nat.{add-sub_cancel_left, div-lt_self, pow-zero, pow-le-pow_left, pow-le-pow_right}
 use borrow.Author.Tests.{lt-leb, not-true, not-false}
@@ -7,8 +7,6 @@ use Rattle.bits.specs.Choice.{pick}
 use Rattle.text.specs.Digit.{hex_value, hex_digit, all_digits}
 use Rattle.bits.specs.Put.{put}
 use Rattle.text.specs.Number.{value_from, plain, plainly, empty, number_in, digits, count_to, digit_count}
-use Rattle.text.specs.declared.number.Parsed.{Parsed}
-use Rattle.text.specs.declared.number.Parsed.TheVariants.{Number, Bad}
 use Rattle.text.proofs.Order.{leb-iff}
 use Rattle.text.proofs.PutLaws.{put_last, put-done}
 use Rattle.text.proofs.DigitLaws.{digits-first}
@@ -27,12 +25,12 @@ plain-first [] d h e = absurd (omega arith)
 plain-first (b ∷ []) d h e = absurd (omega arith)
 plain-first (b ∷ c ∷ text) d h e = rw e
 
-module _ (text : List ℕ) (p : Parsed) (r : Bool) (e : r ≡ plain text) where
-  pub plain-no : not r ≡ true → Bad ≡ plainly text p
+module _ (text : List ℕ) (p : Option ℕ) (r : Bool) (e : r ≡ plain text) where
+  pub plain-no : not r ≡ true → None ≡ plainly text p
   unfolding plainly
   plain-no h = rw (← e, not-true r h)
 
-  pub plain-yes : (q : Parsed) → not r ≡ false → q ≡ p → q ≡ plainly text p
+  pub plain-yes : (q : Option ℕ) → not r ≡ false → q ≡ p → q ≡ plainly text p
   unfolding plainly
   plain-yes q h f = rw (← e, not-false r h) f
 
@@ -54,15 +52,15 @@ pub ruleset exceeds-laws = (exceeds-digit, exceeds-rest)
 -- ---- reading
 
 -- the number that text means after the number v, where it is digits and not above most
-unfoldable pub number_from : ℕ → ℕ → ℕ → List ℕ → Parsed
-number_from base most v text = pick (all_digits base text && leb (value_from base v text) most) (Number (value_from base v text)) Bad
+unfoldable pub number_from : ℕ → ℕ → ℕ → List ℕ → Option ℕ
+number_from base most v text = pick (all_digits base text && leb (value_from base v text) most) (Some (value_from base v text)) None
 
 pub value-le : (base v : ℕ) (text : List ℕ) → 0 < base → v ≤ value_from base v text
 unfolding value_from
 value-le base v [] p = le_refl v
 value-le base v (b ∷ text) p = le_trans (omega (arith, mul-le-mul_left v p)) (value-le base (v * base + hex_value b) text p)
 
-pub number-none : (base most : ℕ) (text : List ℕ) → length text ≡ 0 → Bad ≡ number_in base most text
+pub number-none : (base most : ℕ) (text : List ℕ) → length text ≡ 0 → None ≡ number_in base most text
 unfolding number_in empty
 number-none base most [] h = refl
 number-none base most (b ∷ text) h = absurd (omega arith)
@@ -72,8 +70,8 @@ unfolding number_in empty number_from
 number-start base most [] h = absurd (h refl)
 number-start base most (b ∷ text) h = refl
 
-module _ (base most v i : ℕ) (text : List ℕ) (t : Parsed) (n : number_from base most v (drop i text) ≡ t) where
-  pub number-done : length text ≤ i → v ≤ most → Number v ≡ t
+module _ (base most v i : ℕ) (text : List ℕ) (t : Option ℕ) (n : number_from base most v (drop i text) ≡ t) where
+  pub number-done : length text ≤ i → v ≤ most → Some v ≡ t
   unfolding number_from all_digits value_from
   number-done h l = rw (drop_of_length-le text h, le-leb v most l) at n
 
@@ -82,12 +80,12 @@ module _ (base most v i : ℕ) (text : List ℕ) (t : Parsed) (n : number_from b
     unfolding value_from
     value-first = rw (drop-cons text i 0 h, add-one i, e)
 
-    pub number-digit : base ≤ d → Bad ≡ t
+    pub number-digit : base ≤ d → None ≡ t
     unfolding number_from
     number-digit l = rw (digits-first base i text h, ← e, le-ltb d base l) at n
 
     module _ (l : d < base) (x : Bool) (f : x ≡ ltb most (v * base + d)) where
-      pub number-above : 0 < base → x ≡ true → Bad ≡ t
+      pub number-above : 0 < base → x ≡ true → None ≡ t
       unfolding number_from
       number-above p g =
           rw (

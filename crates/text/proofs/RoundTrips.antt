@@ -1,6 +1,5 @@
 -- What is printed is read back.
-use Rattle.std.proofs.Common.{◌≡◌, ℕ, zero, suc, ◌+◌, ◌*◌, ◌/◌, ◌%◌, ◌^◌, ◌<◌, ◌≤◌, true, false, ltb, List, [], ◌∷◌, ◌++◌, length, get_or, sym, refl, ◌∙◌, ⊎_elim, suc-le-suc, lt_of_lt_of_le, mod-lt, mod-eq_of_lt, zero-lt-suc, div-lt_iff_lt-mul, pow-suc, div-add-mod', le-div_iff_mul-le, arith, le-ltb, lt-ltb, eq-eqb, ne_eqb, le-leb}
-use mathlib.Core.Option.{some}
+use Rattle.std.proofs.Common.{◌≡◌, ℕ, zero, suc, ◌+◌, ◌*◌, ◌/◌, ◌%◌, ◌^◌, ◌<◌, ◌≤◌, true, false, ltb, List, [], ◌∷◌, ◌++◌, length, get_or, sym, refl, ◌∙◌, ⊎_elim, suc-le-suc, lt_of_lt_of_le, mod-lt, mod-eq_of_lt, zero-lt-suc, div-lt_iff_lt-mul, pow-suc, div-add-mod', le-div_iff_mul-le, arith, le-ltb, lt-ltb, eq-eqb, ne_eqb, le-leb, Some}
 use native.Mathlib.Nat.{pow-zero}
 use lib.Arith.{lt-one}
 use lib.ListN.{get_or-append}
@@ -9,7 +8,6 @@ use Rattle.text.specs.Digit.{hex_value, hex_digit, all_digits}
 use Rattle.text.specs.Number.{value_from, value, plain, plainly, empty, number_in, digits, count_to, digit_count, plain_text}
 use Rattle.text.specs.Hex.{hex_number, hex_plain, hex_plain_text, pairs, bytes_spelled, hex_text}
 use Rattle.text.specs.Decimal.{decimal_number, decimal_text}
-use Rattle.text.specs.declared.number.Parsed.TheVariants.{Number}
 use Rattle.text.proofs.Order.{lt-or-le, and_left, and_right, and_both}
 use Rattle.text.proofs.DigitLaws.{value-digit}
 use Rattle.text.proofs.NumberLaws.{length_digits, shorter, one_power, in-64, plain-short, plain-first}
@@ -123,7 +121,7 @@ count-some base n = zero-lt-suc _
 
 -- ---- numbers
 
-pub decimal-trip : (most n : ℕ) → n ≤ most → n < 2 ^ 64 → decimal_number most (decimal_text n) ≡ Number n
+pub decimal-trip : (most n : ℕ) → n ≤ most → n < 2 ^ 64 → decimal_number most (decimal_text n) ≡ Some n
 unfolding plainly number_in
 decimal-trip most n h l =
     let p : 1 < 10 = omega arith in
@@ -138,7 +136,7 @@ decimal-trip most n h l =
     )
 
 -- w digits, leading zeros among them
-pub hex-fixed-trip : (w n : ℕ) → 0 < w → w ≤ 16 → n < 16 ^ w → hex_number (digits 16 w n) ≡ Number n
+pub hex-fixed-trip : (w n : ℕ) → 0 < w → w ≤ 16 → n < 16 ^ w → hex_number (digits 16 w n) ≡ Some n
 unfolding hex_number
 hex-fixed-trip w n l h g =
     let p : 1 < 16 = omega arith in
@@ -150,7 +148,7 @@ hex-fixed-trip w n l h g =
       digits_value 16 p q w n g,
     )
 
-pub hex-plain-trip : (n : ℕ) → n < 2 ^ 64 → hex_plain (hex_plain_text n) ≡ Number n
+pub hex-plain-trip : (n : ℕ) → n < 2 ^ 64 → hex_plain (hex_plain_text n) ≡ Some n
 unfolding plainly
 hex-plain-trip n h =
     let p : 1 < 16 = omega arith in
@@ -173,6 +171,6 @@ unfolding all_digits hex_text
 text-digits [] = refl
 text-digits (b ∷ bytes) = rw (value-digit (b / 16), value-digit b, lt-ltb (b / 16 % 16) 16 (omega arith), lt-ltb (b % 16) 16 (omega arith)) (text-digits bytes)
 
-pub bytes-trip : (bytes : List ℕ) → AllBytes bytes → bytes_spelled (hex_text bytes) ≡ some bytes
+pub bytes-trip : (bytes : List ℕ) → AllBytes bytes → bytes_spelled (hex_text bytes) ≡ Some bytes
 unfolding bytes_spelled
 bytes-trip bytes small = rw (eq-eqb (length (hex_text bytes) % 2) 0 (omega (arith, length-text bytes)), text-digits bytes, pairs-text bytes small)

@@ -1,10 +1,9 @@
 -- Words and keys: one law for each place of the code.
-use Rattle.std.proofs.Common.{◌≡◌, ℕ, suc, ◌+◌, ◌-◌, ◌<◌, ◌≤◌, min, Bool, true, false, not, ◌&&◌, eqb, leb, List, [], ◌∷◌, length, get_or, take, drop, sym, refl, ◌∙◌, ⊎_elim, le_of_eq, add-zero, sub-eq-zero_of_le, add-one, arith, length-drop, drop_of_length-le, take_all, drop-cons, eq-eqb, ne_eqb, le-leb, leb-true}
+use Rattle.std.proofs.Common.{◌≡◌, ℕ, suc, ◌+◌, ◌-◌, ◌<◌, ◌≤◌, min, Bool, true, false, not, ◌&&◌, eqb, leb, List, [], ◌∷◌, length, get_or, take, drop, sym, refl, ◌∙◌, ⊎_elim, le_of_eq, add-zero, sub-eq-zero_of_le, add-one, arith, length-drop, drop_of_length-le, take_all, drop-cons, eq-eqb, ne_eqb, le-leb, leb-true, Some, None}
 use mathlib.Core.Bool.{and-false, false≢true}
 use lib.Seq.{take-nil}
 use borrow.Author.Tests.{lt-leb, not-true, not-false}
 use Rattle.text.specs.Words.{word_length, word_end, begins_with, starts_with, value_at}
-use Rattle.text.specs.declared.words.Value.TheVariants.{Found, Missing}
 use Rattle.text.proofs.Order.{lt-or-le, and_left, and_right}
 
 -- ---- a part, clipped
@@ -114,11 +113,11 @@ module _ (text key : List ℕ) (at : ℕ) (r : Bool) (e : r ≡ starts_with text
       let g : leb at (length text) && begins_with key (drop at text) ≡ true = sym e ∙ not-false r h in
       omega (arith, leb-true at (length text) (and_left _ _ g), begins-le key (drop at text) (and_right (leb at (length text)) _ g), length-drop at text)
 
-  pub value-missing : not r ≡ true → Missing ≡ value_at text at key
+  pub value-missing : not r ≡ true → None ≡ value_at text at key
   unfolding value_at
   value-missing h = rw (← e, not-true r h)
 
-  pub value_found : (to : ℕ) → not r ≡ false → to ≡ word_end text (at + length key) → Found (at + length key) to ≡ value_at text at key
+  pub value_found : (to : ℕ) → not r ≡ false → to ≡ word_end text (at + length key) → Some (record { from = at + length key; to = to }) ≡ value_at text at key
   unfolding value_at
   value_found to h f = rw (← e, not-false r h, f)
 

@@ -1,6 +1,5 @@
 -- Worked cases of the definitions, computed; each list of bytes has its text above it. No contract cites them.
-use Rattle.std.specs.Prelude.{◌≡◌, ℕ, List, [], ◌∷◌, map, refl}
-use Rattle.std.proofs.Math.Option.{some, none}
+use Rattle.std.specs.Prelude.{◌≡◌, ℕ, List, [], ◌∷◌, map, refl, Some, None}
 use Rattle.bits.specs.Put.{put}
 use Rattle.text.specs.Laid.{laid, after}
 use Rattle.text.specs.Buffer.{moved_to_front}
@@ -9,9 +8,6 @@ use Rattle.text.specs.Number.{value_from, plain, plainly, empty, number_in, digi
 use Rattle.text.specs.Hex.{hex_number, hex_plain, hex_plain_text, pairs, bytes_spelled, spelled_answer, spelled_over, front_answer, front_over, hex_text}
 use Rattle.text.specs.Decimal.{decimal_number, decimal_text}
 use Rattle.text.specs.Words.{word_length, word_end, begins_with, starts_with, value_at}
-use Rattle.text.specs.declared.number.Parsed.TheVariants.{Number, Bad}
-use Rattle.text.specs.declared.hex.Spelled.TheVariants.{Bytes, Bad as NoBytes}
-use Rattle.text.specs.declared.words.Value.TheVariants.{Found, Missing}
 
 -- / 0 9 : @ A F ` a f g and a space
 pub letters-valued : map hex_value (47 ∷ 48 ∷ 57 ∷ 58 ∷ 64 ∷ 65 ∷ 70 ∷ 96 ∷ 97 ∷ 102 ∷ 103 ∷ 32 ∷ []) ≡ 16 ∷ 0 ∷ 9 ∷ 16 ∷ 16 ∷ 16 ∷ 16 ∷ 16 ∷ 10 ∷ 15 ∷ 16 ∷ 16 ∷ []
@@ -33,13 +29,13 @@ pub hex-read : map hex_number
     ∷ (102 ∷ 102 ∷ 102 ∷ 102 ∷ 102 ∷ 102 ∷ 102 ∷ 102 ∷ 102 ∷ 102 ∷ 102 ∷ 102 ∷ 102 ∷ 102 ∷ 102 ∷ 102 ∷ [])
     ∷ (48 ∷ 48 ∷ 48 ∷ 48 ∷ 48 ∷ 48 ∷ 48 ∷ 48 ∷ 48 ∷ 48 ∷ 48 ∷ 48 ∷ 48 ∷ 48 ∷ 48 ∷ 48 ∷ 48 ∷ [])
     ∷ [])
-    ≡ Number 7968
-    ∷ Number 256
-    ∷ Number 0
-    ∷ Bad
-    ∷ Bad
-    ∷ Number 18446744073709551615
-    ∷ Bad
+    ≡ Some 7968
+    ∷ Some 256
+    ∷ Some 0
+    ∷ None
+    ∷ None
+    ∷ Some 18446744073709551615
+    ∷ None
     ∷ []
 unfolding hex_number empty all_digits hex_value value_from
 hex-read = refl
@@ -52,11 +48,11 @@ pub hex-plain-read : map hex_plain
     ∷ (48 ∷ 48 ∷ [])
     ∷ ([])
     ∷ [])
-    ≡ Number 7968
-    ∷ Bad
-    ∷ Number 0
-    ∷ Bad
-    ∷ Bad
+    ≡ Some 7968
+    ∷ None
+    ∷ Some 0
+    ∷ None
+    ∷ None
     ∷ []
 unfolding plainly plain hex_number empty all_digits hex_value value_from
 hex-plain-read = refl
@@ -71,13 +67,13 @@ pub decimal-read : map (decimal_number 4294967295)
     ∷ (49 ∷ 97 ∷ [])
     ∷ ([])
     ∷ [])
-    ≡ Number 0
-    ∷ Number 15
-    ∷ Number 4294967295
-    ∷ Bad
-    ∷ Bad
-    ∷ Bad
-    ∷ Bad
+    ≡ Some 0
+    ∷ Some 15
+    ∷ Some 4294967295
+    ∷ None
+    ∷ None
+    ∷ None
+    ∷ None
     ∷ []
 unfolding plainly plain number_in empty all_digits hex_value value_from
 decimal-read = refl
@@ -109,10 +105,10 @@ pub bytes_read : map bytes_spelled
     ∷ (52 ∷ 97 ∷ 48 ∷ [])
     ∷ (52 ∷ 65 ∷ 48 ∷ 48 ∷ [])
     ∷ [])
-    ≡ some []
-    ∷ some (74 ∷ 0 ∷ [])
-    ∷ none
-    ∷ none
+    ≡ Some []
+    ∷ Some (74 ∷ 0 ∷ [])
+    ∷ None
+    ∷ None
     ∷ []
 unfolding bytes_spelled pairs all_digits hex_value
 bytes_read = refl
@@ -123,24 +119,24 @@ unfolding hex_text hex_digit
 bytes-printed = refl
 
 -- two bytes over three, and over one
-pub bytes-over : spelled_over (some (74 ∷ 0 ∷ [])) (1 ∷ 2 ∷ 3 ∷ []) ≡ 74 ∷ 0 ∷ 3 ∷ []
+pub bytes-over : spelled_over (Some (74 ∷ 0 ∷ [])) (1 ∷ 2 ∷ 3 ∷ []) ≡ 74 ∷ 0 ∷ 3 ∷ []
 unfolding spelled_over laid put
 bytes-over = refl
 
-pub bytes-answered : map (spelled_answer (some (74 ∷ 0 ∷ []))) ((1 ∷ 2 ∷ 3 ∷ []) ∷ (1 ∷ []) ∷ []) ≡ Bytes 2 ∷ NoBytes ∷ []
+pub bytes-answered : map (spelled_answer (Some (74 ∷ 0 ∷ []))) ((1 ∷ 2 ∷ 3 ∷ []) ∷ (1 ∷ []) ∷ []) ≡ Some 2 ∷ None ∷ []
 unfolding spelled_answer
 bytes-answered = refl
 
-pub bytes-refused : spelled_over (some (74 ∷ 0 ∷ [])) (1 ∷ []) ≡ 1 ∷ []
+pub bytes-refused : spelled_over (Some (74 ∷ 0 ∷ [])) (1 ∷ []) ≡ 1 ∷ []
 unfolding spelled_over laid
 bytes-refused = refl
 
 -- the first byte of two, none and all of them, over one
-pub front-over : map (λ (most : ℕ). front_over most (some (74 ∷ 0 ∷ [])) (1 ∷ [])) (1 ∷ 0 ∷ 2 ∷ []) ≡ (74 ∷ []) ∷ (1 ∷ []) ∷ (1 ∷ []) ∷ []
+pub front-over : map (λ (most : ℕ). front_over most (Some (74 ∷ 0 ∷ [])) (1 ∷ [])) (1 ∷ 0 ∷ 2 ∷ []) ≡ (74 ∷ []) ∷ (1 ∷ []) ∷ (1 ∷ []) ∷ []
 unfolding front_over laid put
 front-over = refl
 
-pub front-answered : map (λ (most : ℕ). front_answer most (some (74 ∷ 0 ∷ [])) (1 ∷ [])) (1 ∷ 0 ∷ 2 ∷ []) ≡ Bytes 2 ∷ Bytes 2 ∷ NoBytes ∷ []
+pub front-answered : map (λ (most : ℕ). front_answer most (Some (74 ∷ 0 ∷ [])) (1 ∷ [])) (1 ∷ 0 ∷ 2 ∷ []) ≡ Some 2 ∷ Some 2 ∷ None ∷ []
 unfolding front_answer
 front-answered = refl
 
@@ -168,11 +164,11 @@ unfolding word_end word_length
 words-end = refl
 
 -- ` dir=` at the indices 4 and 0, and past the end
-pub dir-found : map (λ (at : ℕ). value_at line at (32 ∷ 100 ∷ 105 ∷ 114 ∷ 61 ∷ [])) (4 ∷ 0 ∷ 17 ∷ []) ≡ Found 9 11 ∷ Missing ∷ Missing ∷ []
+pub dir-found : map (λ (at : ℕ). value_at line at (32 ∷ 100 ∷ 105 ∷ 114 ∷ 61 ∷ [])) (4 ∷ 0 ∷ 17 ∷ []) ≡ Some (record { from = 9; to = 11 }) ∷ None ∷ None ∷ []
 unfolding value_at starts_with begins_with word_end word_length
 dir-found = refl
 
 -- `tlp=` with nothing after it
-pub tlp-found : value_at line 12 (116 ∷ 108 ∷ 112 ∷ 61 ∷ []) ≡ Found 16 16
+pub tlp-found : value_at line 12 (116 ∷ 108 ∷ 112 ∷ 61 ∷ []) ≡ Some (record { from = 16; to = 16 })
 unfolding value_at starts_with begins_with word_end word_length
 tlp-found = refl

@@ -1,10 +1,9 @@
 -- Document 01, Captures: "Decimals have no leading zeros". To believe: decimal_number, decimal_text.
-use Rattle.std.specs.Prelude.{ℕ, List}
+use Rattle.std.specs.Prelude.{ℕ, List, Option}
 use Rattle.text.specs.Number.{plainly, number_in, plain_text}
-use Rattle.text.specs.declared.number.Parsed.{Parsed}
 
 -- a decimal number that is not above most
-abbrev pub decimal_number : ℕ → List ℕ → Parsed
+abbrev pub decimal_number : ℕ → List ℕ → Option ℕ
 decimal_number most text = plainly text (number_in 10 most text)
 
 -- a number as its decimal digits

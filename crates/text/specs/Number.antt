@@ -1,10 +1,8 @@
 -- Numbers in a base, the highest digit first.
 -- To believe: plain, plainly, number_in, digits, digit_count, plain_text and what they are made of.
-use Rattle.std.specs.Prelude.{ℕ, zero, suc, ◌+◌, ◌*◌, ◌/◌, ◌%◌, Bool, true, false, not, ◌&&◌, List, [], ◌∷◌, ◌++◌, ◌==◌, nat_le, nat_lt}
+use Rattle.std.specs.Prelude.{ℕ, zero, suc, ◌+◌, ◌*◌, ◌/◌, ◌%◌, Bool, true, false, not, ◌&&◌, List, [], ◌∷◌, ◌++◌, ◌==◌, nat_le, nat_lt, Option, Some, None}
 use Rattle.bits.specs.Choice.{pick}
 use Rattle.text.specs.Digit.{hex_value, hex_digit, all_digits}
-use Rattle.text.specs.declared.number.Parsed.{Parsed}
-use Rattle.text.specs.declared.number.Parsed.TheVariants.{Number, Bad}
 
 -- ---- read
 
@@ -24,8 +22,8 @@ plain (b ∷ []) = true
 plain (b ∷ c ∷ rest) = not (hex_value b == 0)
 
 -- a number as read, where it has no leading zeros
-unfoldable pub plainly : List ℕ → Parsed → Parsed
-plainly text p = pick (plain text) p Bad
+unfoldable pub plainly : List ℕ → Option ℕ → Option ℕ
+plainly text p = pick (plain text) p None
 
 -- whether there is no byte
 unfoldable pub empty : List ℕ → Bool
@@ -33,8 +31,8 @@ empty [] = true
 empty (b ∷ rest) = false
 
 -- a number, where text is digits, one at least, and it is not above most
-unfoldable pub number_in : ℕ → ℕ → List ℕ → Parsed
-number_in base most text = pick (not (empty text) && (all_digits base text && nat_le (value base text) most)) (Number (value base text)) Bad
+unfoldable pub number_in : ℕ → ℕ → List ℕ → Option ℕ
+number_in base most text = pick (not (empty text) && (all_digits base text && nat_le (value base text) most)) (Some (value base text)) None
 
 -- ---- printed
 

@@ -1,8 +1,7 @@
 -- Words with one space between them, and the values of their keys. To believe: all of it.
-use Rattle.std.specs.Prelude.{ℕ, suc, ◌+◌, ◌-◌, min, Bool, true, false, ◌&&◌, List, [], ◌∷◌, length, take, drop, ◌==◌, nat_le}
+use Rattle.std.specs.Prelude.{ℕ, suc, ◌+◌, ◌-◌, min, Bool, true, false, ◌&&◌, List, [], ◌∷◌, length, take, drop, ◌==◌, nat_le, Option, Some, None}
 use Rattle.bits.specs.Choice.{pick}
-use Rattle.text.specs.declared.words.Value.{Value}
-use Rattle.text.specs.declared.words.Value.TheVariants.{Found, Missing}
+use Rattle.text.specs.declared.words.Place.{Place}
 
 -- the bytes from index from up to index to, as far as there are any
 abbrev pub part : List ℕ → ℕ → ℕ → List ℕ
@@ -28,5 +27,5 @@ unfoldable pub starts_with : List ℕ → ℕ → List ℕ → Bool
 starts_with line at key = nat_le at (length line) && begins_with key (drop at line)
 
 -- a value runs from its key, as in `len=`, to the next space or the end
-unfoldable pub value_at : List ℕ → ℕ → List ℕ → Value
-value_at line at key = pick (starts_with line at key) (Found (at + length key) (word_end line (at + length key))) Missing
+unfoldable pub value_at : List ℕ → ℕ → List ℕ → Option Place
+value_at line at key = pick (starts_with line at key) (Some (record { from = at + length key; to = word_end line (at + length key) })) None

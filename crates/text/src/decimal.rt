@@ -3,14 +3,14 @@ ghost use Rattle.std.specs.Prelude.{◌≡◌};
 ghost use Rattle.text.specs.Laid.{laid, after};
 ghost use Rattle.text.specs.Decimal.{decimal_number, decimal_text};
 
-use crate::number::{Parsed, is_plain, number_in, put_plain};
+use crate::number::{is_plain, number_in, put_plain};
 
 // The number that a text spells, where it is not above most.
-pub fn decimal(text: &[u8], most: u64) -> Parsed
+pub fn decimal(text: &[u8], most: u64) -> Option<u64>
     ensures { result ≡ decimal_number most text.now }
 {
     if !is_plain(text) {
-        return Parsed::Bad;
+        return None;
     }
     number_in(text, 10, most)
 }

@@ -7,7 +7,7 @@ ghost use Rattle.text.specs.Number.{digits};
 ghost use Rattle.text.specs.Hex.{hex_number, hex_plain, hex_plain_text, hex_text};
 ghost use Rattle.text.specs.Hex.{pairs, bytes_spelled, spelled_answer, spelled_over, front_answer, front_over};
 
-use crate::number::{MOST_64, Parsed, is_plain, number_in, put_digits, put_plain};
+use crate::number::{MOST_64, is_plain, number_in, put_digits, put_plain};
 use crate::output::room;
 use bits::choice::lesser;
 use std::num::wrapping_sub_u8;
@@ -47,21 +47,21 @@ pub fn hex_digit(n: u8) -> u8
 }
 
 // The number that 1 to 16 digits spell.
-pub fn hex_number(text: &[u8]) -> Parsed
+pub fn hex_number(text: &[u8]) -> Option<u64>
     ensures { result ≡ hex_number text.now }
 {
     if 16 < text.len() {
-        return Parsed::Bad;
+        return None;
     }
     number_in(text, 16, MOST_64)
 }
 
 // The same without leading zeros.
-pub fn hex_plain(text: &[u8]) -> Parsed
+pub fn hex_plain(text: &[u8]) -> Option<u64>
     ensures { result ≡ hex_plain text.now }
 {
     if !is_plain(text) {
-        return Parsed::Bad;
+        return None;
     }
     hex_number(text)
 }
@@ -78,13 +78,6 @@ pub fn hex_only(text: &[u8]) -> bool
         i += 1;
     }
     good
-}
-
-// How many bytes were spelled.
-#[derive(Clone, Copy)]
-pub enum Spelled {
-    Bytes(usize),
-    Bad,
 }
 
 fn join(a: u8, b: u8) -> u16
@@ -116,26 +109,26 @@ fn lay_bytes(text: &[u8], n: usize, out: &mut [u8])
 
 // How many bytes a text spells, and the first most of them over the front of out;
 // where it spells none, or those do not fit, out stays as it was.
-pub fn hex_front(text: &[u8], most: usize, out: &mut [u8]) -> Spelled
+pub fn hex_front(text: &[u8], most: usize, out: &mut [u8]) -> Option<usize>
     ensures value { result ≡ front_answer most (bytes_spelled text.now) out.old }
     ensures out_after { out.new ≡ front_over most (bytes_spelled text.now) out.old }
 {
     if text.len() % 2 != 0 {
-        return Spelled::Bad;
+        return None;
     }
     if !hex_only(text) {
-        return Spelled::Bad;
+        return None;
     }
     let n = lesser(most, text.len() / 2);
     if out.len() < n {
-        return Spelled::Bad;
+        return None;
     }
     lay_bytes(text, n, out);
-    Spelled::Bytes(text.len() / 2)
+    Some(text.len() / 2)
 }
 
 // The bytes that a text spells, over the front of out; where it spells none, or they do not fit, out stays as it was.
-pub fn hex_bytes(text: &[u8], out: &mut [u8]) -> Spelled
+pub fn hex_bytes(text: &[u8], out: &mut [u8]) -> Option<usize>
     ensures value { result ≡ spelled_answer (bytes_spelled text.now) out.old }
     ensures out_after { out.new ≡ spelled_over (bytes_spelled text.now) out.old }
 {

@@ -14,13 +14,6 @@ pub const MOST_32: u64 = 4294967295;
 
 pub const MOST_64: u64 = 18446744073709551615;
 
-// What a text spells.
-#[derive(Clone, Copy)]
-pub enum Parsed {
-    Number(u64),
-    Bad,
-}
-
 // Whether a text has no leading zero.
 pub(crate) fn is_plain(text: &[u8]) -> bool
     ensures { result ≡ plain text.now }
@@ -43,12 +36,12 @@ fn exceeds(v: u64, base: u64, d: u64, most: u64) -> bool
 }
 
 // The number that a text spells in a base, where it is not above most.
-pub(crate) fn number_in(text: &[u8], base: u64, most: u64) -> Parsed
+pub(crate) fn number_in(text: &[u8], base: u64, most: u64) -> Option<u64>
     requires { 0 < base }
     ensures { result ≡ number_in base most text.now }
 {
     if text.len() == 0 {
-        return Parsed::Bad;
+        return None;
     }
     // v is what the digits before index i spell.
     let mut v: u64 = 0;
@@ -56,15 +49,15 @@ pub(crate) fn number_in(text: &[u8], base: u64, most: u64) -> Parsed
     while i < text.len() {
         let d = hex_value(text[i]) as u64;
         if base <= d {
-            return Parsed::Bad;
+            return None;
         }
         if exceeds(v, base, d, most) {
-            return Parsed::Bad;
+            return None;
         }
         v = v * base + d;
         i += 1;
     }
-    Parsed::Number(v)
+    Some(v)
 }
 
 // How many digits n has.

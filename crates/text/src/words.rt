@@ -1,5 +1,5 @@
 // Words with one space between them, and the values of their keys.
-ghost use Rattle.std.specs.Prelude.{◌≡◌};
+ghost use Rattle.std.specs.Prelude.{◌≡◌, ◌+◌, ◌≤◌, true, length};
 ghost use Rattle.text.specs.Words.{part, begins_with, starts_with, word_end, value_at};
 
 use bits::choice::lesser;
@@ -46,7 +46,8 @@ fn begins_with(text: &[u8], key: &[u8]) -> bool
 
 // Whether key stands in a line from index at on.
 pub fn starts_with(line: &[u8], at: usize, key: &[u8]) -> bool
-    ensures { result ≡ starts_with line.now at key.now }
+    ensures value { result ≡ starts_with line.now at key.now }
+    ensures within { result ≡ true → at + length key.now ≤ length line.now }
 {
     if line.len() < at {
         return false;
@@ -56,19 +57,19 @@ pub fn starts_with(line: &[u8], at: usize, key: &[u8]) -> bool
 
 // The place of a key's value: from index from up to index to.
 #[derive(Clone, Copy)]
-pub enum Value {
-    Found { from: usize, to: usize },
-    Missing,
+pub struct Place {
+    pub from: usize,
+    pub to: usize,
 }
 
 // The value of the key that stands at index at: what follows it, up to the next space or the end.
-pub fn value_at(line: &[u8], at: usize, key: &[u8]) -> Value
+pub fn value_at(line: &[u8], at: usize, key: &[u8]) -> Option<Place>
     ensures { result ≡ value_at line.now at key.now }
 {
     if !starts_with(line, at, key) {
-        return Value::Missing;
+        return None;
     }
     let from = at + key.len();
     let to = word_end(line, from);
-    Value::Found { from: from, to: to }
+    Some(Place { from, to })
 }

@@ -1,14 +1,14 @@
-use Rattle.text.proofs.FieldLaws.{hex-field-laws}
+use Rattle.std.proofs.Common.{rules, sym, ◌∙◌}
+use Rattle.text.specs.Fields.{fixed_hex, hex_after}
+use Rattle.text.proofs.Bounds.{if-some, hex-after-lt}
 use Rattle.text.proofs.fields.hex_after.Goals as goal
 
-pub returns-then-not-before : goal.returns-then-not-before
-returns-then-not-before c = search hex-field-laws depth 12 fits 4000
+value : goal.returns-clause-value
+unfolding hex_after
+value c = c.read_after.ensures (fixed_hex c.args.width) (λ text n p. search rules)
 
-pub returns-then-digits-width : goal.returns-then-digits-width
-returns-then-digits-width c = search hex-field-laws depth 12 fits 4000
+pub returns-clause-value : goal.returns-clause-value
+returns-clause-value = value
 
-pub returns-in-Missing : goal.returns-in-Missing
-returns-in-Missing c = search hex-field-laws depth 12 fits 4000
-
-pub returns-else-digits-width : goal.returns-else-digits-width
-returns-else-digits-width c = search hex-field-laws depth 12 fits 4000
+pub returns-clause-within : goal.returns-clause-within
+returns-clause-within c = if-some c.read_after.result _ (λ f e. hex-after-lt _ _ _ f c.args.width (sym (value c) ∙ e))

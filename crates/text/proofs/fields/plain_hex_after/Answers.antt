@@ -1,11 +1,8 @@
-use Rattle.text.proofs.FieldLaws.{plain-field-laws}
+use Rattle.std.proofs.Common.{rules}
+use Rattle.text.specs.Hex.{hex_plain}
+use Rattle.text.specs.Fields.{plain_hex_after}
 use Rattle.text.proofs.fields.plain_hex_after.Goals as goal
 
-pub returns-then-not-before : goal.returns-then-not-before
-returns-then-not-before c = search plain-field-laws depth 12 fits 4000
-
-pub returns-in-Missing : goal.returns-in-Missing
-returns-in-Missing c = search plain-field-laws depth 12 fits 4000
-
-pub returns-in-Found : goal.returns-in-Found
-returns-in-Found c = search plain-field-laws depth 12 fits 4000
+pub returns : goal.returns
+unfolding plain_hex_after
+returns c = c.read_after.ensures hex_plain (λ text n p. search rules)
