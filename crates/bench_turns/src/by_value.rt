@@ -4,7 +4,7 @@ use crate::code::{take_turn_code, withdraw_turn_code};
 use reads::table::Table;
 use reads_rules::request::ReadRequest;
 
-// The number of the first call that is refused, which code keeps; i counts the turns made, u is the table.
+// The number of the first call that is refused, which code keeps; u is the table.
 pub(crate) fn run_turns(
     t: Table,
     takes: bool,
@@ -18,9 +18,7 @@ pub(crate) fn run_turns(
 ) -> u32 {
     let mut u = t;
     let mut code: u32 = 0;
-    let mut i: u32 = 0;
-    while i < turns {
-        i += 1;
+    for _ in 0..turns {
         let a = u.open(q, tag, room, out);
         let x = a.answer;
         let v = a.table;

@@ -4,7 +4,7 @@ use reads::table::Table;
 use reads_in_place::{open, take, withdraw};
 use reads_rules::request::ReadRequest;
 
-// The number of the first call that is refused, which code keeps; i counts the turns made.
+// The number of the first call that is refused, which code keeps.
 pub(crate) fn run_turns(
     t: Table,
     takes: bool,
@@ -18,8 +18,7 @@ pub(crate) fn run_turns(
 ) -> u32 {
     let mut u = t;
     let mut code: u32 = 0;
-    let mut i: u32 = 0;
-    while i < turns {
+    for _ in 0..turns {
         let a = open(&mut u, q, tag, room, out);
         if takes {
             let b = take(&mut u, bytes, store);
@@ -28,7 +27,6 @@ pub(crate) fn run_turns(
             let b = withdraw(&mut u, tag);
             code = withdraw_turn_code(code, a, b);
         }
-        i += 1;
     }
     code
 }

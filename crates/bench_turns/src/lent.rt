@@ -5,7 +5,7 @@ use reads::table::{Table, withdraw_lent};
 use reads::take::take_lent;
 use reads_rules::request::ReadRequest;
 
-// The number of the first call that is refused, which code keeps; i counts the turns made.
+// The number of the first call that is refused, which code keeps.
 pub(crate) fn run_turns(
     t: Table,
     takes: bool,
@@ -21,9 +21,7 @@ pub(crate) fn run_turns(
     let mut opened = t.opened;
     let mut words = t.words;
     let mut code: u32 = 0;
-    let mut i: u32 = 0;
-    while i < turns {
-        i += 1;
+    for _ in 0..turns {
         let a = open_lent(o, &mut opened, &mut words, q, tag, room, out);
         if takes {
             let b = take_lent(o, &mut opened, &mut words, bytes, store);
