@@ -15,7 +15,7 @@ mod work;
 ghost use Rattle.std.specs.Prelude.{◌≤◌};
 
 use crate::packet::put_packet;
-use crate::setup::{first_table, read_of};
+use crate::setup::first_table;
 use crate::work::{Work, way_in, work_in};
 use reads::table::Table;
 use reads_rules::window::STORE_LIMIT;
@@ -53,15 +53,14 @@ fn turns_code(
     out: &mut [u8; 16],
 ) -> u32 {
     let room = [0u8; STORE];
-    let q = read_of(w.size);
     let packet = part(bytes, 0, 12 + w.size as usize);
     if lent {
-        return lent::run_turns(t, w.takes, w.turns, q, packet, &room, store, out, w.tag);
+        lent::run_turns(t, w, packet, &room, store, out)
+    } else if place {
+        in_place::run_turns(t, w, packet, &room, store, out)
+    } else {
+        by_value::run_turns(t, w, packet, &room, store, out)
     }
-    if place {
-        return in_place::run_turns(t, w.takes, w.turns, q, packet, &room, store, out, w.tag);
-    }
-    by_value::run_turns(t, w.takes, w.turns, q, packet, &room, store, out, w.tag)
 }
 
 // Does a line's work and prints what came of it.
