@@ -4,10 +4,7 @@ use reads_answers::TakeAnswer;
 
 // The number kept so far, or else n.
 fn first_of(code: u32, n: u32) -> u32 {
-    if code != 0 {
-        return code;
-    }
-    n
+    if code != 0 { code } else { n }
 }
 
 // The number of open's answer.
@@ -21,10 +18,8 @@ fn open_code(a: OpenAnswer) -> u32 {
 // A turn's take answers Done; another answer without a number counts as 255.
 fn done_code(a: TakeAnswer) -> u32 {
     match a {
-        TakeAnswer::More => 255,
         TakeAnswer::Done => 0,
-        TakeAnswer::Failed(_) => 255,
-        TakeAnswer::Poisoned => 255,
+        TakeAnswer::More | TakeAnswer::Failed(_) | TakeAnswer::Poisoned => 255,
         TakeAnswer::Unread(r) => r.number,
         TakeAnswer::Refused(n) => n,
     }

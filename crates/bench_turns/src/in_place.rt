@@ -1,34 +1,29 @@
 // The same turns with one table, u, lent to every call. Both kinds of turn are in one loop, with one invariant.
 use crate::code::{take_turn_code, withdraw_turn_code};
+use crate::setup::read_of;
+use crate::work::Work;
 use reads::table::Table;
 use reads_in_place::{open, take, withdraw};
-use reads_rules::request::ReadRequest;
 
-// The number of the first call that is refused, which code keeps; i counts the turns made.
+// The number of the first call that is refused, which code keeps.
 pub(crate) fn run_turns(
     t: Table,
-    takes: bool,
-    turns: u32,
-    q: ReadRequest,
+    w: Work,
     bytes: &[u8],
     room: &[u8],
     store: &mut [u8],
     out: &mut [u8],
-    tag: u32,
 ) -> u32 {
     let mut u = t;
+    let q = read_of(w.size);
     let mut code: u32 = 0;
-    let mut i: u32 = 0;
-    while i < turns {
-        let a = open(&mut u, q, tag, room, out);
-        if takes {
-            let b = take(&mut u, bytes, store);
-            code = take_turn_code(code, a, b);
+    for _ in 0..w.turns {
+        let a = open(&mut u, q, w.tag, room, out);
+        if w.takes {
+            code = take_turn_code(code, a, take(&mut u, bytes, store));
         } else {
-            let b = withdraw(&mut u, tag);
-            code = withdraw_turn_code(code, a, b);
+            code = withdraw_turn_code(code, a, withdraw(&mut u, w.tag));
         }
-        i += 1;
     }
     code
 }

@@ -15,11 +15,10 @@ mod work;
 ghost use Rattle.std.specs.Prelude.{◌≤◌};
 
 use crate::packet::put_packet;
-use crate::setup::{first_table, read_of};
+use crate::setup::first_table;
 use crate::work::{Work, way_in, work_in};
 use reads::table::Table;
 use reads_rules::window::STORE_LIMIT;
-use text::fields::{Field, line_start};
 use text::lines::line_end;
 use text::words::part;
 
@@ -32,19 +31,12 @@ const WINDOW: usize = 4096;
 // The completion that takes it whole: header and payload.
 pub(crate) const PACKET: usize = 12 + WINDOW;
 
-// A byte as a number of 64 bits.
-fn wide(x: u8) -> u64 {
-    x as u64
-}
-
-// The sum of the bytes of a store where the turns' window lies, i of them so far. It is far below 2^64; a sum that may
-// wrap asks for no bound.
+// The sum of the bytes of a store where the turns' window lies. It is far below 2^64; a sum that may wrap asks for no
+// bound.
 fn window_sum(store: &[u8; STORE]) -> u64 {
     let mut sum: u64 = 0;
-    let mut i: usize = 0;
-    while i < WINDOW {
-        sum = std::num::wrapping_add_u64(sum, wide(store[i]));
-        i += 1;
+    for b in &store[..WINDOW] {
+        sum = sum.wrapping_add(*b as u64);
     }
     sum
 }
@@ -61,15 +53,14 @@ fn turns_code(
     out: &mut [u8; 16],
 ) -> u32 {
     let room = [0u8; STORE];
-    let q = read_of(w.size);
     let packet = part(bytes, 0, 12 + w.size as usize);
     if lent {
-        return lent::run_turns(t, w.takes, w.turns, q, packet, &room, store, out, w.tag);
+        lent::run_turns(t, w, packet, &room, store, out)
+    } else if place {
+        in_place::run_turns(t, w, packet, &room, store, out)
+    } else {
+        by_value::run_turns(t, w, packet, &room, store, out)
     }
-    if place {
-        return in_place::run_turns(t, w.takes, w.turns, q, packet, &room, store, out, w.tag);
-    }
-    by_value::run_turns(t, w.takes, w.turns, q, packet, &room, store, out, w.tag)
 }
 
 // Does a line's work and prints what came of it.
@@ -89,25 +80,28 @@ fn run_work(lent: bool, place: bool, w: Work)
     io::write_all(1, b"\n");
 }
 
-// What a line says to do, after the field before.
-fn run_rest(lent: bool, place: bool, line: &[u8], before: Field) {
-    let w = work_in(line, before);
-    if w.good {
-        run_work(lent, place, w);
-        return;
+// What a line says to do, from an index on.
+fn run_rest(lent: bool, place: bool, line: &[u8], at: usize) {
+    match work_in(line, at) {
+        Some(w) => run_work(lent, place, w),
+        None => print_bad(),
     }
+}
+
+fn print_bad() {
     io::write_all(1, b"bad\n");
 }
 
 // Flags and no enum: a flag that a program fixes reaches the turns as a constant, and the ways not taken are dropped
 // before calls are compiled in.
 fn run_line(named: bool, place: bool, line: &[u8]) {
-    if named {
-        let way = way_in(line);
-        run_rest(way.lent, way.place, line, way.field);
-        return;
+    if !named {
+        return run_rest(false, place, line, 0);
     }
-    run_rest(false, place, line, line_start());
+    match way_in(line) {
+        Some(way) => run_rest(way.lent, way.place, line, way.next),
+        None => print_bad(),
+    }
 }
 
 // Runs every line of the input, of which at is the next one's place and n the length.

@@ -8,8 +8,7 @@ fn payload_byte(k: u32) -> u8 {
     ((k % 256 * 7 + 1) % 256) as u8
 }
 
-// Lays it over out: requester ID 0100, completer ID 0200, Lower Address 0; Length and Byte Count are the size's;
-// k counts the bytes of the payload.
+// Lays it over out: requester ID 0100, completer ID 0200, Lower Address 0; Length and Byte Count are the size's.
 pub(crate) fn put_packet(size: u32, tag: u32, out: &mut [u8; PACKET])
     requires { size ≤ 4096 }
 {
@@ -22,9 +21,7 @@ pub(crate) fn put_packet(size: u32, tag: u32, out: &mut [u8; PACKET])
     out[7] = (size % 256) as u8;
     out[8] = 1;
     out[10] = (tag % 256) as u8;
-    let mut k: u32 = 0;
-    while k < size {
+    for k in 0..size {
         out[12 + k as usize] = payload_byte(k);
-        k += 1;
     }
 }

@@ -11,20 +11,16 @@ use tlp::settings::Settings;
 
 // A read of whole doublewords, the last enables as its length wants them.
 fn request(address: u64, length: u32, start: u64) -> ReadRequest {
-    let mut last: u8 = 0b1111;
-    if length == 1 {
-        last = 0b0000;
-    }
     ReadRequest {
         access: Access {
-            address: address,
-            length: length,
+            address,
+            length,
             first: 0b1111,
-            last: last,
+            last: if length == 1 { 0b0000 } else { 0b1111 },
         },
         traffic_class: 0,
         attributes: 0,
-        start: start,
+        start,
     }
 }
 
@@ -34,7 +30,7 @@ pub(crate) fn read_of(size: u32) -> ReadRequest {
 }
 
 // A table with other reads, of 64 bytes, open on the tags after the turns', round the 32 there are; their windows lie
-// behind the turns'; i counts them. The records are put in by hand, so that the table's calls have no caller beside
+// behind the turns'. The records are put in by hand, so that the table's calls have no caller beside
 // the turns.
 pub(crate) fn first_table(others: u32, tag: u32) -> Table
     requires { (others ≤ 31) × (tag ≤ 31) }
@@ -48,8 +44,7 @@ pub(crate) fn first_table(others: u32, tag: u32) -> Table
         0x0100,
     );
     let mut t = m.table;
-    let mut i: u32 = 0;
-    while i < others {
+    for i in 0..others {
         let q = request(131072 + 64 * i as u64, 16, 4096 + 64 * i as u64);
         let x = State::Open(Read {
             request: q,
@@ -58,7 +53,6 @@ pub(crate) fn first_table(others: u32, tag: u32) -> Table
         let mut opened = t.opened;
         put_state(&mut opened, &mut t.words, ((tag + 1 + i) % 32) as usize, x);
         t.opened = opened;
-        i += 1;
     }
     t
 }

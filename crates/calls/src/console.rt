@@ -18,6 +18,5 @@ pub(crate) fn first_table() -> Table {
         mrrs: 128,
         rcb: 64,
     };
-    let made = Table::make(settings, 0);
-    made.table
+    Table::make(settings, 0).table
 }

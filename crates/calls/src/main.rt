@@ -10,12 +10,11 @@ mod slots;
 mod store;
 mod table;
 
-ghost use Rattle.std.specs.Prelude.{◌+◌, ◌≤◌, ◌<◌, length};
+ghost use Rattle.std.specs.Prelude.{◌+◌, ◌≤◌, length};
 ghost use Rattle.calls.specs.Inner.Sizes.{line_most};
 
 use crate::console::{STORE_FIRST, STORE_MOST, first_table};
 use crate::script::{answer_lines, lines_end};
-use bits::choice::lesser;
 use calls_printed::LINE_MOST;
 use calls_printed::print::print_bad;
 use std::io::Read;
@@ -35,20 +34,9 @@ fn keep_rest(buf: &mut [u8], used: usize, n: usize) -> usize
     requires { (used ≤ n) × (n ≤ length buf.old) }
     ensures { result ≤ line_most }
 {
-    let rest = lesser(n - used, LINE_MOST);
+    let rest = LINE_MOST.min(n - used);
     move_to_front(buf, used, used + rest);
     rest
-}
-
-// The turns that are left after one in which so many bytes came: none after the input's end.
-fn turns_left(turns: u64, got: usize) -> u64
-    requires { 0 < turns }
-    ensures { result < turns }
-{
-    if got == 0 {
-        return 0;
-    }
-    turns - 1
 }
 
 fn main(rt: HostRuntime) {
@@ -59,14 +47,16 @@ fn main(rt: HostRuntime) {
     let mut t = first_table();
     // kept bytes at the front of buf are the start of a line that has no end yet.
     let mut kept: usize = 0;
-    let mut turns: u64 = 18446744073709551615;
-    while 0 < turns {
+    // No input is so long that these turns do not reach its end.
+    for _ in 0..u64::MAX {
         let got = read_behind(&mut input, &mut buf, kept);
         let n = kept + got;
-        let used = lines_end(&buf[0..n]);
-        t = answer_lines(&buf[0..used], t, &mut lent, &mut store);
+        let used = lines_end(&buf[..n]);
+        t = answer_lines(&buf[..used], t, &mut lent, &mut store);
         kept = keep_rest(&mut buf, used, n);
-        turns = turns_left(turns, got);
+        if got == 0 {
+            break;
+        }
     }
     // A last line without a newline.
     if 0 < kept {

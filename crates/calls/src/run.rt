@@ -2,7 +2,6 @@
 use crate::slots::{run_force, run_record, run_settings};
 use crate::store::{run_bytes, run_fill, run_store, run_sum};
 use crate::table::{run_new, run_open, run_owed, run_take, run_withdraw};
-use bits::choice::lesser;
 use bits::word::byte_at;
 use calls_printed::print::print_bad;
 use reads::table::Table;
@@ -10,8 +9,7 @@ use text::words::part;
 
 // Words that begin with o, by their second letter.
 fn run_o(line: &[u8], t: Table, store: &[u8]) -> Table {
-    let letter = byte_at(line, 1);
-    match letter {
+    match byte_at(line, 1) {
         b'p' => run_open(line, t, store),
         b'w' => {
             run_owed(line, t);
@@ -25,8 +23,7 @@ fn run_o(line: &[u8], t: Table, store: &[u8]) -> Table {
 }
 
 fn run_f(line: &[u8], t: Table, store: &mut [u8]) -> Table {
-    let letter = byte_at(line, 1);
-    match letter {
+    match byte_at(line, 1) {
         b'o' => run_force(line, t),
         b'i' => {
             run_fill(line, store);
@@ -40,12 +37,10 @@ fn run_f(line: &[u8], t: Table, store: &mut [u8]) -> Table {
 }
 
 fn run_s(line: &[u8], t: Table, lent: &mut usize, store: &mut [u8]) -> Table {
-    let letter = byte_at(line, 1);
-    match letter {
+    match byte_at(line, 1) {
         b'e' => run_settings(line, t),
         b't' => {
-            let len = run_store(line, *lent, store);
-            *lent = len;
+            *lent = run_store(line, *lent, store);
             t
         }
         b'u' => {
@@ -61,8 +56,7 @@ fn run_s(line: &[u8], t: Table, lent: &mut usize, store: &mut [u8]) -> Table {
 
 // Words that no other begins like.
 fn run_other(line: &[u8], t: Table, lent: usize, store: &mut [u8]) -> Table {
-    let letter = byte_at(line, 0);
-    match letter {
+    match byte_at(line, 0) {
         b'w' => run_withdraw(line, t),
         b'n' => run_new(line, t, store),
         b'b' => {
@@ -82,11 +76,10 @@ fn run_other(line: &[u8], t: Table, lent: usize, store: &mut [u8]) -> Table {
 
 // The table after a line. So many bytes of the store are lent; only a line about the store changes how many.
 pub(crate) fn run(line: &[u8], t: Table, lent: &mut usize, store: &mut [u8]) -> Table {
-    let letter = byte_at(line, 0);
-    let n = lesser(*lent, store.len());
-    match letter {
-        b't' => run_take(line, t, &mut store[0..n]),
-        b'o' => run_o(line, t, &store[0..n]),
+    let n = store.len().min(*lent);
+    match byte_at(line, 0) {
+        b't' => run_take(line, t, &mut store[..n]),
+        b'o' => run_o(line, t, &store[..n]),
         b'f' => run_f(line, t, store),
         b's' => run_s(line, t, lent, store),
         _ => run_other(line, t, n, store),

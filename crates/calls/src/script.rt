@@ -12,15 +12,10 @@ use text::lines::line_end;
 pub(crate) fn lines_end(text: &[u8]) -> usize
     ensures { result ≤ length text.now }
 {
-    // No newline stands from index end on.
-    let mut end = text.len();
-    while 0 < end {
-        if text[end - 1] == b'\n' {
-            return end;
-        }
-        end -= 1;
+    match text.iter().rposition(|b| *b == b'\n') {
+        Some(i) => i + 1,
+        None => 0,
     }
-    end
 }
 
 // A line without its newline.
@@ -39,7 +34,7 @@ pub(crate) fn answer_lines(
     lent: &mut usize,
     store: &mut Space,
 ) -> Table {
-    // The lines before index at are answered, and t is the table after them.
+    // The lines before index at are answered, and t is the table after them; at goes from line to line.
     let mut t = first;
     let mut at: usize = 0;
     while at < text.len() {

@@ -1,5 +1,5 @@
 // Lines that reach into the table, unchecked.
-use crate::field::{decimal_at_most, has_form};
+use crate::field::{last_value, only_value};
 use crate::form::{read_part, settings_part};
 use calls_printed::print::{print_bad, print_record, print_words};
 use reads::table::{Table, tag_limit};
@@ -7,72 +7,76 @@ use reads_rules::origin::Origin;
 use reads_rules::read::Read;
 use reads_rules::state::State;
 use reads_slots::record::{put_state, record_at};
-use text::fields::{Field, line_start};
+use text::fields::decimal_after;
 use text::number::{MOST_32, MOST_64};
 
-// Whether a line has the form of its fields and a tag that the table may open.
-fn has_tag(line: &[u8], last: Field, o: Origin, tag: u64) -> bool {
-    if !has_form(line, last) {
-        return false;
-    }
+// Whether a table may open a tag.
+fn may_open(o: Origin, tag: u64) -> bool {
     tag < tag_limit(o.settings) as u64
 }
 
 pub(crate) fn run_record(line: &[u8], t: Table) {
-    let tag = decimal_at_most(line, line_start(), b"record tag=", MOST_32);
-    if !has_tag(line, tag, t.origin, tag.value) {
-        return print_bad();
+    match only_value(line, b"record tag=", MOST_32) {
+        Some(tag) if may_open(t.origin, tag) => {
+            let opened = t.opened;
+            let state = record_at(&opened, &t.words, tag as usize);
+            print_record(tag, state);
+        }
+        _ => print_bad(),
     }
-    let opened = t.opened;
-    let state = record_at(&opened, &t.words, tag.value as usize);
-    print_record(tag.value, state);
 }
 
-fn force(read: Read, tag: u64, mut t: Table) -> Table {
-    let mut opened = t.opened;
-    put_state(&mut opened, &mut t.words, tag as usize, State::Open(read));
-    t.opened = opened;
-    print_words(b"force");
+// What a line puts at a tag.
+#[derive(Clone, Copy)]
+struct Forced {
+    tag: u64,
+    read: Read,
+}
+
+fn force_in(line: &[u8]) -> Option<Forced> {
+    let tag = decimal_after(line, 0, b"force tag=", MOST_32)?;
+    let front = read_part(line, tag.next, b" addr=")?;
+    let start = decimal_after(line, front.next, b" start=", MOST_64)?;
+    let taken = last_value(line, decimal_after(line, start.next, b" taken=", MOST_32)?)?;
+    let mut request = front.request;
+    request.start = start.value;
+    Some(Forced {
+        tag: tag.value,
+        read: Read {
+            request,
+            taken: taken as u32,
+        },
+    })
+}
+
+pub(crate) fn run_force(line: &[u8], mut t: Table) -> Table {
+    match force_in(line) {
+        Some(f) if may_open(t.origin, f.tag) => {
+            let mut opened = t.opened;
+            put_state(
+                &mut opened,
+                &mut t.words,
+                f.tag as usize,
+                State::Open(f.read),
+            );
+            t.opened = opened;
+            print_words(b"force");
+        }
+        _ => print_bad(),
+    }
     t
 }
 
-pub(crate) fn run_force(line: &[u8], t: Table) -> Table {
-    let tag = decimal_at_most(line, line_start(), b"force tag=", MOST_32);
-    let front = read_part(line, tag, b" addr=");
-    let end = front.end;
-    let start = decimal_at_most(line, end, b" start=", MOST_64);
-    let taken = decimal_at_most(line, start, b" taken=", MOST_32);
-    if !has_tag(line, taken, t.origin, tag.value) {
-        print_bad();
-        return t;
+pub(crate) fn run_settings(line: &[u8], mut t: Table) -> Table {
+    match settings_part(line, b"settings mps=") {
+        Some(front) if front.next == line.len() => {
+            t.origin = Origin {
+                settings: front.settings,
+                requester: t.origin.requester,
+            };
+            print_words(b"settings");
+        }
+        _ => print_bad(),
     }
-    let mut q = front.request;
-    q.start = start.value;
-    let read = Read {
-        request: q,
-        taken: taken.value as u32,
-    };
-    force(read, tag.value, t)
-}
-
-pub(crate) fn run_settings(line: &[u8], t: Table) -> Table {
-    let front = settings_part(line, b"settings mps=");
-    let end = front.end;
-    if !has_form(line, end) {
-        print_bad();
-        return t;
-    }
-    let settings = front.settings;
-    let o = t.origin;
-    let opened = t.opened;
-    let words = t.words;
-    print_words(b"settings");
-    Table {
-        origin: Origin {
-            settings: settings,
-            requester: o.requester,
-        },
-        opened: opened,
-        words: words,
-    }
+    t
 }

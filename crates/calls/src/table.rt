@@ -1,5 +1,7 @@
 // Lines that call the table. Each answers the table from here on.
-use crate::field::{decimal_at_most, four_hex, has_form, is_word};
+ghost use Rattle.std.specs.Prelude.{◌≤◌, IfSome};
+
+use crate::field::{last_value, only_value};
 use crate::form::{read_part, settings_part};
 use calls_printed::LINE_MOST;
 use calls_printed::print::{print_bad, print_owed};
@@ -7,92 +9,105 @@ use calls_printed::table::{make_new, open_into, take_packet, withdraw_tag};
 use reads::table::Table;
 use reads_rules::origin::Origin;
 use reads_rules::request::ReadRequest;
-use text::fields::line_start;
-use text::hex::{Spelled, hex_bytes};
+use text::fields::{decimal_after, hex_after};
+use text::hex::hex_bytes;
 use text::number::{MOST_32, MOST_64};
-use text::words::{Value, part, value_at};
+use text::words::{part, starts_with};
+
+fn origin_in(line: &[u8]) -> Option<Origin> {
+    let front = settings_part(line, b"new mps=")?;
+    let requester = last_value(line, hex_after(line, front.next, b" req=", 4)?)?;
+    Some(Origin {
+        settings: front.settings,
+        requester: requester as u16,
+    })
+}
 
 pub(crate) fn run_new(line: &[u8], t: Table, store: &mut [u8]) -> Table {
-    let front = settings_part(line, b"new mps=");
-    let end = front.end;
-    let requester = four_hex(line, end, b" req=");
-    if !has_form(line, requester) {
-        print_bad();
-        return t;
+    match origin_in(line) {
+        Some(origin) => make_new(origin, store),
+        None => {
+            print_bad();
+            t
+        }
     }
-    let settings = front.settings;
-    make_new(
-        Origin {
-            settings: settings,
-            requester: requester.value as u16,
-        },
-        store,
-    )
 }
 
 // The most bytes of an output.
 const OUT_MOST: usize = 32;
 
-fn open_within(q: ReadRequest, tag: u32, room: u64, t: Table, store: &[u8]) -> Table {
-    if (OUT_MOST as u64) < room {
-        print_bad();
-        return t;
-    }
-    let mut space = [238u8; OUT_MOST];
-    let size = room as usize;
-    open_into(q, tag, t, store, &mut space[0..size])
+// A read to be opened on a tag, and the size of the output.
+#[derive(Clone, Copy)]
+struct Asked {
+    request: ReadRequest,
+    tag: u32,
+    room: usize,
+}
+
+fn open_in(line: &[u8]) -> Option<Asked>
+    ensures { IfSome result (λ a. a.room ≤ 32) }
+{
+    let front = read_part(line, 0, b"open addr=")?;
+    let tag = decimal_after(line, front.next, b" tag=", MOST_32)?;
+    let start = decimal_after(line, tag.next, b" start=", MOST_64)?;
+    let room = last_value(
+        line,
+        decimal_after(line, start.next, b" out=", OUT_MOST as u64)?,
+    )?;
+    let mut request = front.request;
+    request.start = start.value;
+    Some(Asked {
+        request,
+        tag: tag.value as u32,
+        room: room as usize,
+    })
 }
 
 pub(crate) fn run_open(line: &[u8], t: Table, store: &[u8]) -> Table {
-    let front = read_part(line, line_start(), b"open addr=");
-    let end = front.end;
-    let tag = decimal_at_most(line, end, b" tag=", MOST_32);
-    let start = decimal_at_most(line, tag, b" start=", MOST_64);
-    let out = decimal_at_most(line, start, b" out=", MOST_64);
-    if !has_form(line, out) {
-        print_bad();
-        return t;
-    }
-    let mut q = front.request;
-    q.start = start.value;
-    open_within(q, tag.value as u32, out.value, t, store)
-}
-
-fn take_digits(digits: &[u8], t: Table, store: &mut [u8]) -> Table {
-    let mut space = [0u8; LINE_MOST / 2];
-    let spelled = hex_bytes(digits, &mut space);
-    match spelled {
-        Spelled::Bad => {
+    match open_in(line) {
+        Some(a) => {
+            let mut space = [238u8; OUT_MOST];
+            open_into(a.request, a.tag, t, store, &mut space[..a.room])
+        }
+        None => {
             print_bad();
             t
         }
-        Spelled::Bytes(n) => take_packet(part(&space, 0, n), t, store),
     }
+}
+
+// The packet whose digits follow the key up to the line's end, laid over the front of a space.
+fn packet_in<'a>(line: &[u8], space: &'a mut [u8]) -> Option<&'a [u8]> {
+    let digits = line.strip_prefix(b"take tlp=")?;
+    let n = hex_bytes(digits, space)?;
+    Some(part(space, 0, n))
 }
 
 pub(crate) fn run_take(line: &[u8], t: Table, store: &mut [u8]) -> Table {
-    let place = value_at(line, 0, b"take tlp=");
-    match place {
-        Value::Missing => {
+    let mut space = [0u8; LINE_MOST / 2];
+    match packet_in(line, &mut space) {
+        Some(packet) => take_packet(packet, t, store),
+        None => {
             print_bad();
             t
         }
-        Value::Found { from, to } => take_digits(part(line, from, line.len()), t, store),
     }
 }
 
 pub(crate) fn run_withdraw(line: &[u8], t: Table) -> Table {
-    let tag = decimal_at_most(line, line_start(), b"withdraw tag=", MOST_32);
-    if !has_form(line, tag) {
-        print_bad();
-        return t;
+    match only_value(line, b"withdraw tag=", MOST_32) {
+        Some(tag) => withdraw_tag(tag as u32, t),
+        None => {
+            print_bad();
+            t
+        }
     }
-    withdraw_tag(tag.value as u32, t)
 }
 
 pub(crate) fn run_owed(line: &[u8], t: Table) {
-    if !is_word(line, b"owed") {
-        return print_bad();
+    if line == b"owed".as_slice() {
+        print_owed(t.owed());
+    } else {
+        print_bad();
     }
-    print_owed(t.owed());
 }

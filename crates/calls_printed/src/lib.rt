@@ -4,7 +4,6 @@
 
 pub mod checksum;
 pub mod print;
-pub mod store;
 pub mod table;
 
 // The most bytes of a line with its newline.

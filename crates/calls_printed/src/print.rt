@@ -106,8 +106,7 @@ fn put_access(a: Access, at: usize, text: &mut Text) -> usize {
 }
 
 fn put_request(q: ReadRequest, at: usize, text: &mut Text) -> usize {
-    let a = q.access;
-    let class = put_access(a, at, text);
+    let class = put_access(q.access, at, text);
     let attributes = put_number(b" tc=", q.traffic_class as u64, class, text);
     let start = put_number(b" attr=", q.attributes as u64, attributes, text);
     put_number(b" start=", q.start, start, text)
@@ -117,8 +116,7 @@ fn put_state(x: State, at: usize, text: &mut Text) -> usize {
     match x {
         State::Free => put_text(b" free", at, text),
         State::Open(r) => {
-            let q = r.request;
-            let taken = put_request(q, at, text);
+            let taken = put_request(r.request, at, text);
             put_number(b" taken=", r.taken as u64, taken, text)
         }
     }

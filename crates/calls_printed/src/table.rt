@@ -5,7 +5,6 @@ ghost use Rattle.reads.specs.TakeCall.{take_call, take_store};
 ghost use Rattle.reads.specs.OtherCalls.{make_call, withdraw_call};
 
 use crate::print::{print_new, print_open, print_take, print_withdraw};
-use crate::store::fill;
 use reads::table::Table;
 use reads_rules::origin::Origin;
 use reads_rules::request::ReadRequest;
@@ -15,10 +14,9 @@ pub fn make_new(o: Origin, store: &mut [u8]) -> Table
     ensures value { result ≡ (make_call o).table }
     ensures store_after { store.new ≡ replicate (length store.old) 0 }
 {
-    fill(store, 0);
+    store.fill(0);
     let made = Table::make(o.settings, o.requester);
-    let answer = made.answer;
-    print_new(answer);
+    print_new(made.answer);
     made.table
 }
 
@@ -28,8 +26,7 @@ pub fn open_into(q: ReadRequest, tag: u32, t: Table, store: &[u8], out: &mut [u8
     ensures out_after { out.new ≡ open_out t q tag (length store.now) out.old }
 {
     let opening = t.open(q, tag, store, out);
-    let answer = opening.answer;
-    print_open(answer, out);
+    print_open(opening.answer, out);
     opening.table
 }
 
@@ -39,8 +36,7 @@ pub fn take_packet(packet: &[u8], t: Table, store: &mut [u8]) -> Table
     ensures store_after { store.new ≡ take_store t packet.now store.old }
 {
     let taking = t.take(packet, store);
-    let answer = taking.answer;
-    print_take(answer);
+    print_take(taking.answer);
     taking.table
 }
 
@@ -49,7 +45,6 @@ pub fn withdraw_tag(tag: u32, t: Table) -> Table
     ensures { result ≡ (withdraw_call t tag).table }
 {
     let withdrawal = t.withdraw(tag);
-    let answer = withdrawal.answer;
-    print_withdraw(answer);
+    print_withdraw(withdrawal.answer);
     withdrawal.table
 }

@@ -93,8 +93,7 @@ fn open(t: Table, store: &[u8]) -> Table {
     };
     let mut header = [0u8; 12];
     let opening = t.open(request, 5, store, &mut header);
-    let answer = opening.answer;
-    print_open(answer);
+    print_open(opening.answer);
     let next = opening.table;
     print_owed(next.owed());
     next
@@ -128,8 +127,7 @@ fn take(
 ) -> Table {
     let packet = completion(length, byte_count, lower_address, byte);
     let taking = t.take(part(&packet, 0, 12 + 4 * length as usize), store);
-    let answer = taking.answer;
-    print_take(answer);
+    print_take(taking.answer);
     let next = taking.table;
     print_owed(next.owed());
     next
@@ -137,8 +135,7 @@ fn take(
 
 fn withdraw(t: Table) -> Table {
     let withdrawal = t.withdraw(5);
-    let answer = withdrawal.answer;
-    print_withdraw(answer);
+    print_withdraw(withdrawal.answer);
     let next = withdrawal.table;
     print_owed(next.owed());
     next
@@ -165,8 +162,7 @@ fn print_store(store: &[u8; 256]) {
 fn main() {
     let mut store = [0u8; 256];
     let made = new_table();
-    let answer = made.answer;
-    print_new(answer);
+    print_new(made.answer);
     let mut t = open(made.table, &store);
     t = take_whole(t, &mut store);
     print_store(&store);
