@@ -36,17 +36,6 @@ use Rattle.tlp_write.specs.Inner.Head.{word_bytes, head_front, head_size, head_b
 use Rattle.tlp_write.specs.Inner.Lay.{lay_answer, lay_out}
 use Rattle.tlp_write.proofs.LayoutLaws.{routing-low, header-length, header-front, three-or-four}
 
--- ---- sizes
-
-pub wide-law : (t : PacketType) (n : ℕ) → n ≡ header_dw t → eqb n 4 ≡ eqb (header_dw t) 4
-wide-law t n e = rw e
-
-pub held-le : (t : PacketType) (d n : ℕ) → d ≡ data_bytes t n → Fits w32 n → d < 2 ^ 34
-held-le t d n e h = omega (arith, e, data-le t n, h.fits)
-
-pub whole-law : (h : Head) (d n : ℕ) → d ≡ data_size h → n ≡ pick (eqb (header_dw h.packet_type) 4) 16 12 + d + digest_bytes h.has_digest → n ≡ whole_size h
-whole-law h d n e k = rw e at k
-
 -- ---- the packet over the output
 
 head-length : (h : Head) → length (head_bytes h) ≡ head_size h

@@ -37,44 +37,34 @@ fn is_wide(t: PacketType) -> bool
 fn head_size(t: PacketType) -> usize
     ensures { (result ≡ pick (eqb (header_dw t) 4) 16 12) × (result ≤ 16) }
 {
-    if is_wide(t) {
-        return 16;
-    }
-    12
+    if is_wide(t) { 16 } else { 12 }
 }
 
-// Header, data of held bytes and digest. A length of 32 bits calls for no more data than that.
-fn whole_size(t: PacketType, held: usize, digest: bool) -> usize
-    requires { held < 2 ^ 34 }
-    ensures { result ≡ pick (eqb (header_dw t) 4) 16 12 + held + digest_bytes digest }
+// Header, data and digest. A length of 32 bits calls for no more data than that.
+fn whole_size(h: Head) -> usize
+    ensures { result ≡ whole_size h }
 {
-    head_size(t) + held + digest_bytes(digest)
+    head_size(h.packet_type) + data_bytes(h.packet_type, h.length) + digest_bytes(h.has_digest)
 }
 
 // The first that holds of the rows 11 and, for the packet's fields, 6; 0 where none does.
+#[tactic(auto, unfolding(tlp::specs::Rows::first))]
 fn field_number(settings: Settings, p: Packet) -> u32
     ensures { result ≡ first (field_rows settings p) }
 {
-    if !settings_listed(settings) {
-        return 11;
+    if settings_listed(settings) {
+        given_number(p)
+    } else {
+        11
     }
-    given_number(p)
 }
 
 // The first that holds of the rows 3, 5, the fault and 12, for a payload of n bytes; 0 where none does.
-fn judged_number(
-    mps: u32,
-    h: Head,
-    fault: u32,
-    held: usize,
-    size: usize,
-    n: usize,
-    room: usize,
-) -> u32
-    requires held_value { held ≡ data_size h }
-    requires size_value { size ≡ whole_size h }
+#[tactic(auto, unfolding(tlp::specs::Rows::first))]
+fn judged_number(mps: u32, h: Head, fault: u32, n: usize, room: usize) -> u32
     ensures { result ≡ first (judged_rows mps h fault n room) }
 {
+    let held = data_bytes(h.packet_type, h.length);
     if n != held {
         return 3;
     }
@@ -84,7 +74,7 @@ fn judged_number(
     if fault != 0 {
         return fault;
     }
-    if room < size {
+    if room < whole_size(h) {
         return 12;
     }
     0
@@ -96,9 +86,7 @@ fn put_front(h: Head, payload: &[u8], out: &mut [u8]) -> usize
     ensures { (result ≡ length (head_bytes h ++ payload.now))
         × (out.new ≡ put 0 (head_bytes h ++ payload.now) out.old) }
 {
-    let words = h.words;
-    let t = h.packet_type;
-    let n = put::put_words(front_word(h), words, is_wide(t), out);
+    let n = put::put_words(front_word(h), h.words, is_wide(h.packet_type), out);
     put::put_at(n, payload, out)
 }
 
@@ -117,15 +105,12 @@ fn write_judged(mps: u32, h: Head, fault: u32, payload: &[u8], out: &mut [u8]) -
     ensures value { result ≡ judged_answer mps h fault (length payload.now) (length out.old) }
     ensures out_after { out.new ≡ judged_out mps h fault payload.now out.old }
 {
-    let t = h.packet_type;
-    let held = data_bytes(t, h.length);
-    let size = whole_size(t, held, h.has_digest);
-    let n = judged_number(mps, h, fault, held, size, payload.len(), out.len());
+    let n = judged_number(mps, h, fault, payload.len(), out.len());
     if n != 0 {
         return WriteAnswer::Refused(n);
     }
     put_packet(h, payload, out);
-    WriteAnswer::Written(size)
+    WriteAnswer::Written(whole_size(h))
 }
 
 // The packet that a head stands for, over the front of the output, for who knows that the settings are listed and no
