@@ -1,5 +1,5 @@
 -- Laws of a header in words, in the words of the returns.
-use Prim.Native.Nat.{ℕ, ◌+◌, ◌*◌, ◌/◌, ◌%◌, ◌^◌, ◌≤◌, ◌<◌}
+use Prim.Native.Nat.{ℕ, ◌+◌, ◌*◌, ◌/◌, ◌%◌, ◌^◌, ◌≤◌}
 use mathlib.Core.Path.{◌≡◌, refl, sym, ap, ◌∙◌}
 use mathlib.Core.Bool.{Bool, true, false}
 use mathlib.Core.List.{List, [], ◌∷◌, ◌++◌}
@@ -8,7 +8,6 @@ use native.Mathlib.Omega.{arith}
 use lib.ListN.{length, take}
 use mir.Val.{Fits}
 use mir.Syntax.{w8, w32}
-use borrow.Author.Tests.{lt-ltb, le-ltb}
 use Rattle.bits.specs.Choice.{pick, flag}
 use Rattle.bits.specs.Word.{bytes}
 use Rattle.bits.specs.Put.{put}
@@ -19,14 +18,9 @@ use Rattle.tlp.specs.declared.packet.Request.{Request}
 use Rattle.tlp.specs.declared.packet.ConfigRequest.{ConfigRequest}
 use Rattle.tlp.specs.declared.packet.MessageRequest.{MessageRequest}
 use Rattle.tlp.specs.declared.packet.CompletionHeader.{CompletionHeader}
-use Rattle.tlp.specs.declared.packet.Route.{Route}
-use Rattle.tlp.specs.declared.packet.Kind.{Kind}
-use Rattle.tlp.specs.declared.packet.Kind.TheVariants.{MemoryRead, MemoryWrite, IoRead, IoWrite, ConfigRead0, ConfigWrite0, ConfigRead1, ConfigWrite1, Message, MessageData, Completion, CompletionData}
-use Rattle.tlp.specs.Packets.{address_of, id_of}
-use Rattle.tlp_write.specs.Layout.{request_bytes, memory_address, config_bytes, message_bytes, completion_bytes, own_bytes}
+use Rattle.tlp_write.specs.Layout.{request_bytes, config_bytes, message_bytes, completion_bytes}
 use Rattle.tlp_write.specs.Inner.Padded.{padded}
-use Rattle.tlp_write.specs.Inner.Head.{word_bytes, head_front}
-use Rattle.tlp_write.specs.declared.words.Words.{Words}
+use Rattle.tlp_write.specs.Inner.Head.{head_front}
 use Rattle.tlp_write.specs.declared.head.Head.{Head}
 
 -- ---- bytes of joined numbers

@@ -1,13 +1,11 @@
 -- Laws of writing, in the words of its returns.
-use Prim.Native.Nat.{ℕ, zero, suc, ◌+◌, ◌*◌, ◌^◌, ◌≤◌, ◌<◌}
+use Prim.Native.Nat.{ℕ, zero, suc, ◌+◌, ◌*◌, ◌≤◌, ◌<◌}
 use mathlib.Core.Path.{◌≡◌, refl, sym, ap, ◌∙◌}
 use mathlib.Core.Bool.{Bool, true, false, not}
 use mathlib.Core.List.{List, [], ◌++◌, append_assoc}
 use native.Mathlib.Omega.{arith}
 use lib.Dec.{eqb, ltb}
 use lib.ListN.{length, take, length-append}
-use mir.Val.{Fits}
-use mir.Syntax.{w32}
 use borrow.Author.Tests.{eqb-true, ltb-false, lt-ltb, le-ltb, not-false, ne_eqb}
 use Rattle.bits.specs.Choice.{pick}
 use Rattle.bits.specs.Word.{bytes}
@@ -17,7 +15,6 @@ use Rattle.byte_enables.specs.declared.Access.{Access}
 use Rattle.tlp.specs.Rows.{first}
 use Rattle.tlp.proofs.RowLaws.{some_of, none_of}
 use Rattle.tlp.specs.PacketTypes.{header_dw, family_of}
-use Rattle.tlp.proofs.Bounds.{data-le}
 use Rattle.tlp.specs.Packets.{type_of, access_of}
 use Rattle.tlp.specs.Sizes.{data_bytes, digest_bytes}
 use Rattle.tlp.specs.Contents.{plain_bad, enables_bad, page_bad, fault_rows}
