@@ -5,7 +5,7 @@ use mathlib.Core.Bool.{Bool, true, false, ◌&&◌, not, true≢false, and-eq-tr
 use mathlib.Core.List.{List}
 use lib.Dec.{eqb}
 use lib.ListN.{length}
-use borrow.Author.Tests.{eqb-true, not-true, not-false}
+use borrow.Author.Tests.{eqb-true}
 use Rattle.bits.specs.Choice.{pick}
 use Rattle.tlp.specs.Settings.{settings_listed}
 use Rattle.tlp.specs.declared.settings.Settings.{Settings}
@@ -20,9 +20,7 @@ use Rattle.tlp_write.specs.Inner.Head.{head_answer, head_out, IsHead}
 use Rattle.tlp_write.proofs.WriteLaws.{head-answer, head-out}
 use Rattle.tlp_record.specs.Record.{record_packet, is_record}
 use Rattle.tlp_record_write.specs.Inner.Fit.{writable}
-use Rattle.tlp_record_write.specs.Inner.KindHead.{IsKindHead, JudgedHead}
 use Rattle.tlp_record_write.specs.RecordWrite.{record_answer, record_out}
-use Rattle.tlp_record_write.specs.declared.kind_head.KindHead.{KindHead}
 
 abbrev refused_by : ℕ → WriteAnswer
 refused_by n = Refused n
@@ -39,13 +37,6 @@ not-fit : (b : Bool) (g : ℕ) → b && eqb g 0 ≡ false → b ≡ true → eqb
 not-fit true g e h = e
 not-fit false g e h = absurd (true≢false (sym h))
 
-module _ (s : List ℕ) (o : KindHead) (i : JudgedHead o s) where
-  pub head-unfit : not o.fits ≡ true → false ≡ writable s
-  head-unfit h = sym (not-true o.fits h) ∙ i.0
-
-  pub head-fit : not o.fits ≡ false → IsKindHead o s
-  head-fit h = i.1 (not-false o.fits h)
-
 module _ (c : Settings) (s : List ℕ) (l : Bool) (el : l ≡ settings_listed c) where
   module _ (h : not l ≡ true) where
     unlisted-same : (n room : ℕ) → record_answer c s n room ≡ refused_by 11
@@ -60,12 +51,12 @@ module _ (c : Settings) (s : List ℕ) (l : Bool) (el : l ≡ settings_listed c)
     unlisted-out payload out = rw (unlisted-same (length payload) (length out))
 
   module _ (h : not l ≡ false) where
-    module _ (k : false ≡ writable s) where
+    module _ (k : writable s ≡ false) where
       refused-by-6 : is_record s ≡ true → (n room : ℕ) → write_packet c (record_packet s) n room ≡ refused_by 6
       unfolding writable write_packet first
       refused-by-6 r n room =
           let p = record_packet s in
-          let g : eqb (first (given_rows p)) 0 ≡ false = not-fit (is_record s) (first (given_rows p)) (sym k) r in
+          let g : eqb (first (given_rows p)) 0 ≡ false = not-fit (is_record s) (first (given_rows p)) k r in
           rw (← el, h, first-six (common_bad p) (own_bad p.kind) (reserved_given p) (route_bad p.route p.kind) _ g)
 
       unfit-same : (n room : ℕ) → record_answer c s n room ≡ refused_by 6
@@ -83,10 +74,10 @@ module _ (c : Settings) (s : List ℕ) (l : Bool) (el : l ≡ settings_listed c)
       unfolding record_out
       unfit-out payload out = rw (unfit-same (length payload) (length out))
 
-    module _ (o : KindHead) (i : JudgedHead o s) (k : not o.fits ≡ false) (d : Head) (j : IsHead d (record_packet s)) where
+    module _ (k : writable s ≡ true) (d : Head) (j : IsHead d (record_packet s)) where
       fits : (is_record s ≡ true) × (eqb (first (given_rows (record_packet s))) 0 ≡ true)
       unfolding writable
-      fits = (and-eq-true_iff (is_record s) (eqb (first (given_rows (record_packet s))) 0)).0 (sym i.0 ∙ not-false o.fits k)
+      fits = (and-eq-true_iff (is_record s) (eqb (first (given_rows (record_packet s))) 0)).0 k
 
       none-hold : 0 ≡ first (field_rows c (record_packet s))
       unfolding first

@@ -15,12 +15,6 @@ use tlp::settings::{Settings, settings_listed};
 use tlp_record::places::RECORD_SIZE;
 use tlp_write::{WriteAnswer, write_head};
 
-fn refused(number: u32) -> WriteAnswer
-    ensures { result ≡ WriteAnswer.Refused number }
-{
-    WriteAnswer::Refused(number)
-}
-
 // The packet over the front of the output, or the first number that is given, with the output as it was.
 pub fn write_record(
     settings: Settings,
@@ -34,17 +28,16 @@ pub fn write_record(
         ≡ record_out settings «record».now payload.now out.old }
 {
     if !settings_listed(settings) {
-        return refused(11);
+        return WriteAnswer::Refused(11);
     }
-    if record.len() != RECORD_SIZE {
-        return refused(6);
-    }
+    let Ok(record) = <&[u8; RECORD_SIZE]>::try_from(record) else {
+        return WriteAnswer::Refused(6);
+    };
     if !shared_fits(record) {
-        return refused(6);
+        return WriteAnswer::Refused(6);
     }
-    let kind = kind_head_in(record);
-    if !kind.fits {
-        return refused(6);
-    }
+    let Some(kind) = kind_head_in(record) else {
+        return WriteAnswer::Refused(6);
+    };
     write_head(settings.mps, head_in(kind, record), payload, out)
 }

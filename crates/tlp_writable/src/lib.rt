@@ -1,7 +1,8 @@
 // The writer's first place for 6: what a packet must not hold.
 #![tactic(auto)]
 
-ghost use Rattle.std.specs.Prelude.{◌≡◌, ℕ, ◌+◌, ◌^◌};
+ghost use Rattle.std.specs.Prelude.{◌≡◌};
+ghost use Rattle.bits.specs.Choice.{pick};
 ghost use Rattle.tlp.specs.Rows.{first};
 ghost use Rattle.tlp_writable.specs.Given.{outside, length_bad, common_bad, request_bad, config_bad, completion_bad, own_bad, reserved_given};
 ghost use Rattle.tlp_writable.specs.Given.{address_route_bad, id_route_bad, message_route_bad, route_bad, given_rows};
@@ -81,13 +82,13 @@ fn reserved_given(p: Packet) -> bool
     is_io_or_config(family_of(type_of(p))) && p.attributes / 4 % 2 != 0
 }
 
-// A memory or I/O request goes by an address, a multiple of 4 and no more than the last one.
+// A memory or I/O request goes by an address, a multiple of 4; that of I/O has 32 bits.
 #[tactic(auto, unfolding(crate::specs::Given::address_route_bad))]
-fn address_route_bad(last: u64, r: Route) -> bool
-    ensures { (w : ℕ) → last + 1 ≡ 2 ^ w → result ≡ address_route_bad w r }
+fn address_route_bad(narrow: bool, r: Route) -> bool
+    ensures { result ≡ address_route_bad (pick narrow 32 64) r }
 {
     match r {
-        Route::Address(a) => last < a || a % 4 != 0,
+        Route::Address(a) => narrow && 4294967296 <= a || a % 4 != 0,
         Route::Id(_) | Route::Implicit(_) => true,
     }
 }
@@ -116,8 +117,8 @@ fn route_bad(r: Route, k: Kind) -> bool
     ensures { result ≡ route_bad r k }
 {
     match k {
-        Kind::MemoryRead(_) | Kind::MemoryWrite(_) => address_route_bad(u64::MAX, r),
-        Kind::IoRead(_) | Kind::IoWrite(_) => address_route_bad(u64::from(u32::MAX), r),
+        Kind::MemoryRead(_) | Kind::MemoryWrite(_) => address_route_bad(false, r),
+        Kind::IoRead(_) | Kind::IoWrite(_) => address_route_bad(true, r),
         Kind::ConfigRead0(_)
         | Kind::ConfigWrite0(_)
         | Kind::ConfigRead1(_)
