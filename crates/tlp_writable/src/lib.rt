@@ -4,11 +4,13 @@
 ghost use Rattle.std.specs.Prelude.{◌≡◌};
 ghost use Rattle.bits.specs.Choice.{pick};
 ghost use Rattle.tlp.specs.Rows.{first};
+ghost use Rattle.tlp.specs.Refusals.{checked};
 ghost use Rattle.tlp_writable.specs.Given.{outside, length_bad, common_bad, request_bad, config_bad, completion_bad, own_bad, reserved_given};
 ghost use Rattle.tlp_writable.specs.Given.{address_route_bad, id_route_bad, message_route_bad, route_bad, given_rows};
 
 use tlp::packet::{CompletionHeader, ConfigRequest, Kind, Packet, Request, Route, type_of};
 use tlp::packet_type::{family_of, is_io_or_config};
+use tlp::refusal::Refusal;
 
 // Whether a number is outside 1..most.
 pub fn outside_of(most: u32, n: u32) -> bool
@@ -129,14 +131,13 @@ fn route_bad(r: Route, k: Kind) -> bool
     }
 }
 
-// 6 where the packet holds what it must not, else 0.
-#[tactic(auto, unfolding(tlp::specs::Rows::first))]
-pub fn given_number(p: Packet) -> u32
-    ensures { result ≡ first (given_rows p) }
+// Refused where the packet holds what it must not.
+#[tactic(auto, unfolding(tlp::specs::Rows::first, tlp::specs::Refusals::refusal))]
+pub fn given_fault(p: Packet) -> Result<(), Refusal>
+    ensures { result ≡ checked (first (given_rows p)) }
 {
     if common_bad(p) || own_bad(p.kind) || reserved_given(p) || route_bad(p.route, p.kind) {
-        6
-    } else {
-        0
+        return Err(Refusal::BadField);
     }
+    Ok(())
 }

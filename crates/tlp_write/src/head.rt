@@ -9,14 +9,15 @@ use bits::word::{join16, join32};
 use tlp::content::fault_of;
 use tlp::packet::{Implicit, Kind, Packet, Route, access_of, type_of};
 use tlp::packet_type::{PacketType, family_of, first_byte};
+use tlp::refusal::Refusal;
 
 #[derive(Clone, Copy)]
 pub struct Head {
     pub packet_type: PacketType,
     // What byte 0 has beside the type: a message's routing.
     pub routing: u8,
-    // The first of the rows 6 to 8 that holds; any other number is none.
-    pub fault: u32,
+    // The first of the rows 6 to 8 that holds; any other refusal is none.
+    pub fault: Result<(), Refusal>,
     pub words: Words,
     pub traffic_class: u8,
     pub attributes: u8,
@@ -26,17 +27,14 @@ pub struct Head {
     pub length: u32,
 }
 
-// No other number than 6 to 8 is handed on.
-pub(crate) fn listed_fault(n: u32) -> u32
-    ensures { result ≡ listed_fault n }
+// No other fault than those of the rows 6 to 8 is handed on.
+pub(crate) fn listed_fault(fault: Result<(), Refusal>) -> Result<(), Refusal>
+    ensures { result ≡ listed_fault fault }
 {
-    if n < 6 {
-        return 0;
+    match fault {
+        Err(Refusal::BadField | Refusal::BadEnables | Refusal::Crosses4K) => fault,
+        _ => Ok(()),
     }
-    if 8 < n {
-        return 0;
-    }
-    n
 }
 
 fn routing_of(r: Route) -> u8

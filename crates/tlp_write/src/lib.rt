@@ -9,24 +9,20 @@ ghost use Rattle.std.specs.Prelude.{◌≡◌, ◌++◌, ◌+◌, ◌^◌, ◌�
 ghost use Rattle.bits.specs.Choice.{pick};
 ghost use Rattle.bits.specs.Put.{put, over_front};
 ghost use Rattle.tlp.specs.Rows.{first};
+ghost use Rattle.tlp.specs.Refusals.{checked};
 ghost use Rattle.tlp.specs.PacketTypes.{header_dw};
 ghost use Rattle.tlp.specs.Sizes.{digest_bytes};
 ghost use Rattle.tlp_write.specs.Write.{field_rows, write_packet, write_out};
-ghost use Rattle.tlp_write.specs.Inner.Head.{head_bytes, head_digest, data_size, whole_size, judged_rows, judged_answer, judged_out, head_answer, head_out};
+ghost use Rattle.tlp_write.specs.Inner.Head.{head_bytes, head_digest, whole_size, judged_answer, judged_out, head_answer, head_out};
 ghost use Rattle.tlp_write.specs.Inner.Lay.{lay_answer, lay_out};
 
 use crate::head::{Head, front_word, head_of, listed_fault};
 use tlp::packet::Packet;
 use tlp::packet_type::{PacketType, header_dw};
+use tlp::refusal::Refusal;
 use tlp::settings::{Settings, settings_listed};
 use tlp::size::{data_bytes, digest_bytes};
-use tlp_writable::given_number;
-
-#[derive(Clone, Copy)]
-pub enum WriteAnswer {
-    Written(usize),
-    Refused(u32),
-}
+use tlp_writable::given_fault;
 
 fn is_wide(t: PacketType) -> bool
     ensures { result ≡ eqb (header_dw t) 4 }
@@ -47,37 +43,42 @@ fn whole_size(h: Head) -> usize
     head_size(h.packet_type) + data_bytes(h.packet_type, h.length) + digest_bytes(h.has_digest)
 }
 
-// The first that holds of the rows 11 and, for the packet's fields, 6; 0 where none does.
-#[tactic(auto, unfolding(tlp::specs::Rows::first))]
-fn field_number(settings: Settings, p: Packet) -> u32
-    ensures { result ≡ first (field_rows settings p) }
+// The first that holds of the rows 11 and, for the packet's fields, 6.
+#[tactic(auto, unfolding(tlp::specs::Rows::first, tlp::specs::Refusals::refusal))]
+fn field_fault(settings: Settings, p: Packet) -> Result<(), Refusal>
+    ensures { result ≡ checked (first (field_rows settings p)) }
 {
     if settings_listed(settings) {
-        given_number(p)
+        given_fault(p)
     } else {
-        11
+        Err(Refusal::BadSetting)
     }
 }
 
-// The first that holds of the rows 3, 5, the fault and 12, for a payload of n bytes; 0 where none does.
-#[tactic(auto, unfolding(tlp::specs::Rows::first))]
-fn judged_number(mps: u32, h: Head, fault: u32, n: usize, room: usize) -> u32
-    ensures { result ≡ first (judged_rows mps h fault n room) }
+// The size to write: the rows 3, 5, the fault and 12 are looked at, for a payload of n bytes.
+#[tactic(auto, unfolding(tlp::specs::Rows::first, tlp::specs::Refusals::refusal, crate::specs::Inner::Head::judged_answer))]
+fn judged_size(
+    mps: u32,
+    h: Head,
+    fault: Result<(), Refusal>,
+    n: usize,
+    room: usize,
+) -> Result<usize, Refusal>
+    ensures { result ≡ judged_answer mps h fault n room }
 {
     let held = data_bytes(h.packet_type, h.length);
     if n != held {
-        return 3;
+        return Err(Refusal::SizeMismatch);
     }
     if (mps as usize) < held {
-        return 5;
+        return Err(Refusal::OverMaxPayload);
     }
-    if fault != 0 {
-        return fault;
+    fault?;
+    let size = whole_size(h);
+    if room < size {
+        return Err(Refusal::OutputTooShort);
     }
-    if room < whole_size(h) {
-        return 12;
-    }
-    0
+    Ok(size)
 }
 
 // Header and payload over the front of the output; returns their size.
@@ -101,21 +102,24 @@ fn put_packet(h: Head, payload: &[u8], out: &mut [u8])
 }
 
 // The packet of a head, whose settings are judged and whose first of the rows 6 to 8 is fault.
-fn write_judged(mps: u32, h: Head, fault: u32, payload: &[u8], out: &mut [u8]) -> WriteAnswer
+fn write_judged(
+    mps: u32,
+    h: Head,
+    fault: Result<(), Refusal>,
+    payload: &[u8],
+    out: &mut [u8],
+) -> Result<usize, Refusal>
     ensures value { result ≡ judged_answer mps h fault (length payload.now) (length out.old) }
     ensures out_after { out.new ≡ judged_out mps h fault payload.now out.old }
 {
-    let n = judged_number(mps, h, fault, payload.len(), out.len());
-    if n != 0 {
-        return WriteAnswer::Refused(n);
-    }
+    let size = judged_size(mps, h, fault, payload.len(), out.len())?;
     put_packet(h, payload, out);
-    WriteAnswer::Written(whole_size(h))
+    Ok(size)
 }
 
 // The packet that a head stands for, over the front of the output, for who knows that the settings are listed and no
 // field of the packet has a row of 6 at its first place: the rows 3, 5, 6 to 8 and 12 are looked at.
-pub fn write_head(mps: u32, h: Head, payload: &[u8], out: &mut [u8]) -> WriteAnswer
+pub fn write_head(mps: u32, h: Head, payload: &[u8], out: &mut [u8]) -> Result<usize, Refusal>
     ensures value { result ≡ head_answer mps h (length payload.now) (length out.old) }
     ensures out_after { out.new ≡ head_out mps h payload.now out.old }
 {
@@ -124,22 +128,25 @@ pub fn write_head(mps: u32, h: Head, payload: &[u8], out: &mut [u8]) -> WriteAns
 
 // The packet over the front of the output, for who knows that no row of its fields holds: of the rows 3, 5 and 12 alone
 // are looked at.
-pub fn lay_packet(mps: u32, p: Packet, payload: &[u8], out: &mut [u8]) -> WriteAnswer
+pub fn lay_packet(mps: u32, p: Packet, payload: &[u8], out: &mut [u8]) -> Result<usize, Refusal>
     ensures value { result ≡ lay_answer mps p (length payload.now) (length out.old) }
     ensures out_after { out.new ≡ lay_out mps p payload.now out.old }
 {
-    write_judged(mps, head_of(p), 0, payload, out)
+    write_judged(mps, head_of(p), Ok(()), payload, out)
 }
 
-// The packet over the front of the output, or the first number that is given, with the output as it was.
-pub fn write(settings: Settings, p: Packet, payload: &[u8], out: &mut [u8]) -> WriteAnswer
+// The packet over the front of the output, or the first refusal that is given, with the output as it was. The size is
+// answered.
+pub fn write(
+    settings: Settings,
+    p: Packet,
+    payload: &[u8],
+    out: &mut [u8],
+) -> Result<usize, Refusal>
     ensures value { result ≡ write_packet settings p (length payload.now) (length out.old) }
     ensures out_after { out.new ≡ write_out settings p payload.now out.old }
 {
-    let number = field_number(settings, p);
-    if number != 0 {
-        return WriteAnswer::Refused(number);
-    }
+    field_fault(settings, p)?;
     let h = head_of(p);
     write_judged(settings.mps, h, h.fault, payload, out)
 }
