@@ -14,6 +14,9 @@ use Rattle.bits.specs.Word.{byte, word, bytes, Bytes}
 use Rattle.bits.proofs.ChoiceLaws.{pick-ap}
 use Rattle.byte_enables.specs.declared.Access.{Access}
 use Rattle.tlp.specs.Rows.{first}
+use Rattle.tlp.specs.Refusals.{checked}
+use Rattle.tlp.specs.declared.refusal.Refusal.{Refusal}
+use Rattle.std.specs.Prelude.{Result, Ok}
 use Rattle.tlp.specs.PacketTypes.{family_of}
 use Rattle.tlp.specs.Packets.{address_of, type_in, type_of, access_at, access_in, access_of}
 use Rattle.tlp.specs.Contents.{plain_bad, enables_bad, page_bad, fault_rows}
@@ -45,7 +48,7 @@ use Rattle.tlp_record_write.proofs.Families.{memory-law, io-law, config-law, mes
 
 module _ (s : List ℕ) (o : KindHead) (r : Route) (k : Kind) (er : route_in s ≡ r) (ek : kind_in s ≡ k) where
   head_of : o.packet_type ≡ type_in (address_of r) k → o.routing ≡ routing_in r k
-      → o.fault ≡ first (fault_rows (family_of (type_in (address_of r) k)) (access_in (address_of r) k) (byte s 1) (byte s 2) 0)
+      → o.fault ≡ checked (first (fault_rows (family_of (type_in (address_of r) k)) (access_in (address_of r) k) (byte s 1) (byte s 2) 0))
       → word_bytes o.words ≡ padded 12 (own_bytes r k) → word 4 s 28 ≡ (access_in (address_of r) k).length → IsKindHead o s
   unfolding type_of access_of record_packet
   head_of et eg ef ew el = record {
@@ -133,7 +136,7 @@ memory-family : (b : Bool) (x y : PacketType) → family_of x ≡ Memory → fam
 memory-family true x y e h = e
 memory-family false x y e h = h
 
-memory-faults : (f : Family) (a : Access) (tc attr m : ℕ) → f ≡ Memory → m ≡ first (memory_rows a) → m ≡ first (fault_rows f a tc attr 0)
+memory-faults : (f : Family) (a : Access) (tc attr : ℕ) (m : Result Unit Refusal) → f ≡ Memory → m ≡ checked (first (memory_rows a)) → m ≡ checked (first (fault_rows f a tc attr 0))
 unfolding first plain_bad enables_bad page_bad
 memory-faults f a tc attr m e q = rw e q
 
@@ -142,7 +145,7 @@ module _ (s : List ℕ) (o : KindHead) (n : ℕ) (e : n ≡ byte s 0) where
     access-is : a ≡ access_at (word 8 s 8) (request_in s)
     access-is = rw (← ev, ← eq) ea
 
-    memory-head : 1 ≤ n → n ≤ 2 → memory_fits s ≡ true → o.packet_type ≡ type_numbered n (word 8 s 8) → o.routing ≡ 0 → o.fault ≡ first (memory_rows a)
+    memory-head : 1 ≤ n → n ≤ 2 → memory_fits s ≡ true → o.packet_type ≡ type_numbered n (word 8 s 8) → o.routing ≡ 0 → o.fault ≡ checked (first (memory_rows a))
         → word_bytes o.words ≡ padded 12 (request_bytes q ++ memory_address v) → IsKindHead o s
     unfolding routing_in own_bytes request_in
     memory-head l h fits et eg ef ew = by n refl
@@ -150,8 +153,8 @@ module _ (s : List ℕ) (o : KindHead) (n : ℕ) (e : n ≡ byte s 0) where
         words : word_bytes o.words ≡ padded 12 (request_bytes (request_in s) ++ memory_address (word 8 s 8))
         words = ew ∙ ap (λ (x : Request). padded 12 (request_bytes x ++ memory_address v)) eq ∙ ap (λ (x : ℕ). padded 12 (request_bytes (request_in s) ++ memory_address x)) ev
 
-        faults : o.fault ≡ first (memory_rows (access_at (word 8 s 8) (request_in s)))
-        faults = ef ∙ ap (λ (x : Access). first (memory_rows x)) access-is
+        faults : o.fault ≡ checked (first (memory_rows (access_at (word 8 s 8) (request_in s))))
+        faults = ef ∙ ap (λ (x : Access). checked (first (memory_rows x))) access-is
 
         by : (m : ℕ) → n ≡ m → IsKindHead o s
         by zero k = absurd (omega (arith, l, k))
@@ -168,15 +171,15 @@ module _ (s : List ℕ) (o : KindHead) (n : ℕ) (e : n ≡ byte s 0) where
         by (suc (suc (suc m))) k = absurd (omega (arith, h, k))
 
     io-head : 3 ≤ n → n ≤ 4 → io_fits s ≡ true → o.packet_type ≡ type_numbered n (word 8 s 8) → o.routing ≡ 0
-        → o.fault ≡ first (register_rows a (byte s 1) (byte s 2) 0) → word_bytes o.words ≡ padded 12 (request_bytes q ++ bytes 4 v) → IsKindHead o s
+        → o.fault ≡ checked (first (register_rows a (byte s 1) (byte s 2) 0)) → word_bytes o.words ≡ padded 12 (request_bytes q ++ bytes 4 v) → IsKindHead o s
     unfolding routing_in own_bytes request_in first plain_bad enables_bad page_bad
     io-head l h fits et eg ef ew = by n refl
       where
         words : word_bytes o.words ≡ padded 12 (request_bytes (request_in s) ++ bytes 4 (word 8 s 8))
         words = ew ∙ ap (λ (x : Request). padded 12 (request_bytes x ++ bytes 4 v)) eq ∙ ap (λ (x : ℕ). padded 12 (request_bytes (request_in s) ++ bytes 4 x)) ev
 
-        faults : o.fault ≡ first (register_rows (access_at (word 8 s 8) (request_in s)) (byte s 1) (byte s 2) 0)
-        faults = ef ∙ ap (λ (x : Access). first (register_rows x (byte s 1) (byte s 2) 0)) access-is
+        faults : o.fault ≡ checked (first (register_rows (access_at (word 8 s 8) (request_in s)) (byte s 1) (byte s 2) 0))
+        faults = ef ∙ ap (λ (x : Access). checked (first (register_rows x (byte s 1) (byte s 2) 0))) access-is
 
         by : (m : ℕ) → n ≡ m → IsKindHead o s
         by zero k = absurd (omega (arith, l, k))
@@ -189,7 +192,7 @@ module _ (s : List ℕ) (o : KindHead) (n : ℕ) (e : n ≡ byte s 0) where
         by (suc (suc (suc (suc (suc m))))) k = absurd (omega (arith, h, k))
 
   config-head : (q : ConfigRequest) (i : ℕ) (a : Access) → q ≡ config_in s → i ≡ word 2 s 14 → a ≡ access_at 0 q.request
-      → 5 ≤ n → n ≤ 8 → config_fits s ≡ true → o.packet_type ≡ type_numbered n (word 8 s 8) → o.routing ≡ 0 → o.fault ≡ first (register_rows a (byte s 1) (byte s 2) 0)
+      → 5 ≤ n → n ≤ 8 → config_fits s ≡ true → o.packet_type ≡ type_numbered n (word 8 s 8) → o.routing ≡ 0 → o.fault ≡ checked (first (register_rows a (byte s 1) (byte s 2) 0))
       → word_bytes o.words ≡ padded 12 (config_bytes i q) → IsKindHead o s
   unfolding routing_in own_bytes config_in request_in first plain_bad enables_bad page_bad
   config-head q i a eq ei ea l h fits et eg ef ew = by n refl
@@ -197,10 +200,10 @@ module _ (s : List ℕ) (o : KindHead) (n : ℕ) (e : n ≡ byte s 0) where
       words : word_bytes o.words ≡ padded 12 (config_bytes (word 2 s 14) (config_in s))
       words = ew ∙ ap (λ (x : ConfigRequest). padded 12 (config_bytes i x)) eq ∙ ap (λ (x : ℕ). padded 12 (config_bytes x (config_in s))) ei
 
-      faults : o.fault ≡ first (register_rows (access_at 0 (config_in s).request) (byte s 1) (byte s 2) 0)
+      faults : o.fault ≡ checked (first (register_rows (access_at 0 (config_in s).request) (byte s 1) (byte s 2) 0))
       faults =
           ef
-          ∙ ap (λ (x : Access). first (register_rows x (byte s 1) (byte s 2) 0)) (ea ∙ ap (λ (x : ConfigRequest). access_at 0 x.request) eq)
+          ∙ ap (λ (x : Access). checked (first (register_rows x (byte s 1) (byte s 2) 0))) (ea ∙ ap (λ (x : ConfigRequest). access_at 0 x.request) eq)
 
       by : (m : ℕ) → n ≡ m → IsKindHead o s
       by zero k = absurd (omega (arith, l, k))
@@ -230,7 +233,7 @@ module _ (s : List ℕ) (o : KindHead) (n : ℕ) (e : n ≡ byte s 0) where
       )
 
   message-head : (m : MessageRequest) → m ≡ message_in s → 9 ≤ n → n ≤ 10 → message_fits (eqb n 10) s ≡ true
-      → o.packet_type ≡ type_numbered n (word 8 s 8) → o.routing ≡ case_routing (byte s 5) → o.fault ≡ 0 → word_bytes o.words ≡ message_bytes m → IsKindHead o s
+      → o.packet_type ≡ type_numbered n (word 8 s 8) → o.routing ≡ case_routing (byte s 5) → o.fault ≡ Ok tt → word_bytes o.words ≡ message_bytes m → IsKindHead o s
   unfolding routing_in own_bytes first plain_bad enables_bad page_bad
   message-head m em l h fits et eg ef ew = by (eqb n 10) refl
     where
@@ -251,7 +254,7 @@ module _ (s : List ℕ) (o : KindHead) (n : ℕ) (e : n ≡ byte s 0) where
           head_of s o (route_numbered (byte s 5) s) (Message (message_in s)) (route-at s (byte s 5) refl) (kind_at s 9 m) (et ∙ rw j) routes ef words (message-bare-length s (rw k at fits))
 
   completion-head : (c : CompletionHeader) (i : ℕ) → c ≡ completion_in s → i ≡ word 2 s 14 → 11 ≤ n → n ≤ 12 → completion_fits (eqb n 12) s ≡ true
-      → o.packet_type ≡ type_numbered n (word 8 s 8) → o.routing ≡ 0 → o.fault ≡ 0 → word_bytes o.words ≡ padded 12 (completion_bytes i c) → IsKindHead o s
+      → o.packet_type ≡ type_numbered n (word 8 s 8) → o.routing ≡ 0 → o.fault ≡ Ok tt → word_bytes o.words ≡ padded 12 (completion_bytes i c) → IsKindHead o s
   unfolding routing_in own_bytes first plain_bad enables_bad page_bad
   completion-head c i ec ei l h fits et eg ef ew = by (eqb n 12) refl
     where
@@ -285,7 +288,7 @@ module _ (s : List ℕ) (len : length s ≡ 48) (each : Bytes s) (b : Bool) wher
     memory-none h = unfit memory-written h
 
     pub memory-some : (q : Request) (v : ℕ) (a : Access) (o : KindHead) → not b ≡ false → q ≡ request_in s → v ≡ word 8 s 8 → a ≡ access_at v q
-        → o.packet_type ≡ type_numbered (byte s 0) (word 8 s 8) → o.routing ≡ 0 → o.fault ≡ first (memory_rows a)
+        → o.packet_type ≡ type_numbered (byte s 0) (word 8 s 8) → o.routing ≡ 0 → o.fault ≡ checked (first (memory_rows a))
         → word_bytes o.words ≡ padded 12 (request_bytes q ++ memory_address v) → JudgedHead (Some o) s
     memory-some q v a o h eq ev ea et eg ef ew =
         fit memory-written h o (memory-head s o (byte s 0) refl q v a eq ev ea k.from k.upto (sym eb ∙ not-false b h) et eg ef ew)
@@ -298,7 +301,7 @@ module _ (s : List ℕ) (len : length s ≡ 48) (each : Bytes s) (b : Bool) wher
     io-none h = unfit io-written h
 
     pub io-some : (q : Request) (v : ℕ) (a : Access) (o : KindHead) → not b ≡ false → q ≡ request_in s → v ≡ word 8 s 8 → a ≡ access_at v q
-        → o.packet_type ≡ type_numbered (byte s 0) (word 8 s 8) → o.routing ≡ 0 → o.fault ≡ first (register_rows a (byte s 1) (byte s 2) 0)
+        → o.packet_type ≡ type_numbered (byte s 0) (word 8 s 8) → o.routing ≡ 0 → o.fault ≡ checked (first (register_rows a (byte s 1) (byte s 2) 0))
         → word_bytes o.words ≡ padded 12 (request_bytes q ++ bytes 4 v) → JudgedHead (Some o) s
     io-some q v a o h eq ev ea et eg ef ew =
         fit io-written h o (io-head s o (byte s 0) refl q v a eq ev ea k.from k.upto (sym eb ∙ not-false b h) et eg ef ew)
@@ -311,7 +314,7 @@ module _ (s : List ℕ) (len : length s ≡ 48) (each : Bytes s) (b : Bool) wher
     config-none h = unfit config-written h
 
     pub config-some : (q : ConfigRequest) (i : ℕ) (a : Access) (o : KindHead) → not b ≡ false → q ≡ config_in s → i ≡ word 2 s 14 → a ≡ access_at 0 q.request
-        → o.packet_type ≡ type_numbered (byte s 0) (word 8 s 8) → o.routing ≡ 0 → o.fault ≡ first (register_rows a (byte s 1) (byte s 2) 0)
+        → o.packet_type ≡ type_numbered (byte s 0) (word 8 s 8) → o.routing ≡ 0 → o.fault ≡ checked (first (register_rows a (byte s 1) (byte s 2) 0))
         → word_bytes o.words ≡ padded 12 (config_bytes i q) → JudgedHead (Some o) s
     config-some q i a o h eq ei ea et eg ef ew =
         fit config-written h o (config-head s o (byte s 0) refl q i a eq ei ea k.from k.upto (sym eb ∙ not-false b h) et eg ef ew)
@@ -324,7 +327,7 @@ module _ (s : List ℕ) (len : length s ≡ 48) (each : Bytes s) (b : Bool) wher
     message-none h = unfit message-written h
 
     pub message-some : (m : MessageRequest) (o : KindHead) → not b ≡ false → m ≡ message_in s → o.packet_type ≡ type_numbered (byte s 0) (word 8 s 8)
-        → o.routing ≡ case_routing (byte s 5) → o.fault ≡ 0 → word_bytes o.words ≡ message_bytes m → JudgedHead (Some o) s
+        → o.routing ≡ case_routing (byte s 5) → o.fault ≡ Ok tt → word_bytes o.words ≡ message_bytes m → JudgedHead (Some o) s
     message-some m o h em et eg ef ew =
         fit message-written h o (message-head s o (byte s 0) refl m em k.from k.upto (sym eb ∙ not-false b h) et eg ef ew)
 
@@ -336,6 +339,6 @@ module _ (s : List ℕ) (len : length s ≡ 48) (each : Bytes s) (b : Bool) wher
     completion-none h = unfit completion-written h
 
     pub completion-some : (c : CompletionHeader) (i : ℕ) (o : KindHead) → not b ≡ false → c ≡ completion_in s → i ≡ word 2 s 14
-        → o.packet_type ≡ type_numbered (byte s 0) (word 8 s 8) → o.routing ≡ 0 → o.fault ≡ 0 → word_bytes o.words ≡ padded 12 (completion_bytes i c) → JudgedHead (Some o) s
+        → o.packet_type ≡ type_numbered (byte s 0) (word 8 s 8) → o.routing ≡ 0 → o.fault ≡ Ok tt → word_bytes o.words ≡ padded 12 (completion_bytes i c) → JudgedHead (Some o) s
     completion-some c i o h ec ei et eg ef ew =
         fit completion-written h o (completion-head s o (byte s 0) refl c i ec ei k.from k.upto (sym eb ∙ not-false b h) et eg ef ew)

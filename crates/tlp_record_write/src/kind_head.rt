@@ -15,6 +15,7 @@ use tlp::packet::{
     CompletionHeader, ConfigRequest, MessageRequest, Request, access_at, memory_form,
 };
 use tlp::packet_type::PacketType;
+use tlp::refusal::Refusal;
 use tlp_record::places::{
     ATTRIBUTES, BYTE_COUNT, BYTE_COUNT_MODIFIED, DIGEST, DIGEST_PRESENT, EXTENDED_REGISTER,
     FIRST_ENABLES, KIND, LAST_ENABLES, LENGTH, LOWER_ADDRESS, MESSAGE_BYTES, MESSAGE_CODE,
@@ -30,7 +31,7 @@ use tlp_write::words::{
 pub struct KindHead {
     pub packet_type: PacketType,
     pub routing: u8,
-    pub fault: u32,
+    pub fault: Result<(), Refusal>,
     pub words: Words,
 }
 
@@ -179,7 +180,7 @@ fn message_head(record: &[u8; RECORD_SIZE]) -> Option<KindHead>
     Some(KindHead {
         packet_type: type_in(record),
         routing: case_routing(record),
-        fault: 0,
+        fault: Ok(()),
         words: message_words(message_in(record)),
     })
 }
@@ -194,7 +195,7 @@ fn completion_head(record: &[u8; RECORD_SIZE]) -> Option<KindHead>
     Some(KindHead {
         packet_type: type_in(record),
         routing: 0,
-        fault: 0,
+        fault: Ok(()),
         words: completion_words(two(record, ROUTE_ID), completion_in(record)),
     })
 }
@@ -216,7 +217,7 @@ pub(crate) fn kind_head_in(record: &[u8; RECORD_SIZE]) -> Option<KindHead>
 
 // With what every kind has alike.
 #[tactic(auto, unfolding(tlp_record::specs::Record::record_packet))]
-pub(crate) fn head_in(k: KindHead, record: &[u8; RECORD_SIZE]) -> Head
+pub(crate) fn whole_head(k: KindHead, record: &[u8; RECORD_SIZE]) -> Head
     requires { IsKindHead k «record».now }
     ensures { IsHead result (record_packet «record».now) }
 {

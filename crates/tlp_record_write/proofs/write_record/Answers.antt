@@ -1,4 +1,3 @@
-use Rattle.tlp_record_write.proofs.Writable.{not-long, not-shared}
 use Rattle.tlp_record_write.proofs.RecordWriteLaws.{unlisted-answer, unlisted-out, unfit-answer, unfit-out, written-answer, written_out}
 use Rattle.tlp_record_write.proofs.write_record.Goals as goal
 
@@ -7,23 +6,10 @@ returns-then-not-settings_listed c = record { value = search unlisted-answer; ou
 
 pub returns-in_default : goal.returns-in_default
 returns-in_default c =
-    let n = not-long c.args.record.now c.in_default.ensures.1 in
-    record { value = search unfit-answer; out_after = search unfit-out }
-
-pub returns-then-not-shared_fits : goal.returns-then-not-shared_fits
-returns-then-not-shared_fits c =
-    let e = c.in-Ok.ensures.1 in
-    let n = not-shared c.args.record.now c.in-Ok.record.now e.long e.same (λ i. (c.type_inv.record i).fits) c.if-not-shared_fits.ensures in
-    record { value = search unfit-answer; out_after = search unfit-out }
-
-pub returns-in_default-kind_head_in : goal.returns-in_default-kind_head_in
-returns-in_default-kind_head_in c =
-    let n = rw c.in-Ok.ensures.1.same at c.in_default-kind_head_in.ensures in
-    record { value = search unfit-answer; out_after = search unfit-out }
+    let k = c.in_default.ensures in
+    record { value = search (unfit-answer, k); out_after = search (unfit-out, k) }
 
 pub returns : goal.returns
 returns c =
-    let e = c.in-Ok.ensures.1.same in
-    let k = rw e at c.in-Some.ensures.0 in
-    let j = rw e at c.head_in.ensures in
-    record { value = search written-answer; out_after = search written_out }
+    let (k, j) = c.in-Some.ensures in
+    record { value = search (written-answer, k, j); out_after = search (written_out, k, j) }

@@ -3,6 +3,7 @@ use Rattle.std.specs.Prelude.{ℕ, ◌≡◌, ◌≤◌, true, false, List, eqb,
 use Rattle.bits.specs.Choice.{pick}
 use Rattle.bits.specs.Word.{byte, word}
 use Rattle.tlp.specs.Rows.{Row, first}
+use Rattle.tlp.specs.Refusals.{checked}
 use Rattle.tlp.specs.PacketTypes.{family_of}
 use Rattle.tlp.specs.Contents.{fault_rows}
 use Rattle.tlp.specs.Packets.{memory_form, type_of, access_of}
@@ -10,7 +11,8 @@ use Rattle.tlp.specs.declared.packet_type.PacketType.{PacketType}
 use Rattle.tlp.specs.declared.packet_type.PacketType.TheVariants.{MRd32, MRd64, MWr32, MWr64, IORd, IOWr, CfgRd0, CfgWr0, CfgRd1, CfgWr1, Msg, MsgD, Cpl, CplD}
 use Rattle.tlp_write.specs.Layout.{routing_in, own_bytes}
 use Rattle.tlp_write.specs.Inner.Padded.{padded}
-use Rattle.tlp_write.specs.Inner.Head.{word_bytes}
+use Rattle.tlp_write.specs.Inner.Head.{word_bytes, IsHead}
+use Rattle.tlp_write.specs.declared.head.Head.{Head}
 use Rattle.tlp_record.specs.Places.{kind_place, length_place}
 use Rattle.tlp_record.specs.Record.{record_packet}
 use Rattle.tlp_record_write.specs.Inner.Fit.{writable}
@@ -51,7 +53,7 @@ record_faults fields =
 pub record IsKindHead (k : KindHead) (fields : List ℕ) : Type 0 where
   pub type_is : k.packet_type ≡ type_of (record_packet fields)
   pub routing_is : k.routing ≡ routing_in (record_packet fields).route (record_packet fields).kind
-  pub fault_is : k.fault ≡ first (record_faults fields)
+  pub fault_is : k.fault ≡ checked (first (record_faults fields))
   pub words_are : word_bytes k.words ≡ padded 12 (own_bytes (record_packet fields).route (record_packet fields).kind)
   pub length_is : word 4 fields length_place ≡ (access_of (record_packet fields)).length
 
@@ -59,3 +61,8 @@ pub record IsKindHead (k : KindHead) (fields : List ℕ) : Type 0 where
 abbrev pub JudgedHead : Option KindHead → List ℕ → Type 0
 JudgedHead None fields = writable fields ≡ false
 JudgedHead (Some k) fields = (writable fields ≡ true) × IsKindHead k fields
+
+-- the whole head in the same way
+abbrev pub RecordHead : Option Head → List ℕ → Type 0
+RecordHead None fields = writable fields ≡ false
+RecordHead (Some h) fields = (writable fields ≡ true) × IsHead h (record_packet fields)
