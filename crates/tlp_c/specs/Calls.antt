@@ -1,10 +1,9 @@
 -- What the exported functions answer, by the packet definitions, and what they leave in what is lent to them. A reader
 -- must believe all of these.
-use Rattle.std.specs.Prelude.{ℕ, List}
+use Rattle.std.specs.Prelude.{ℕ, List, Result, Ok, Err}
 use Rattle.tlp.specs.declared.settings.Settings.{Settings}
-use Rattle.tlp_write.specs.declared.WriteAnswer.{WriteAnswer}
-use Rattle.tlp_write.specs.declared.WriteAnswer.TheVariants.{Written, Refused as NotWritten}
-use Rattle.tlp_write.specs.Write.{number_of}
+use Rattle.tlp.specs.declared.refusal.Refusal.{Refusal}
+use Rattle.tlp.specs.Refusals.{number_in}
 use Rattle.tlp_record_write.specs.RecordWrite.{record_answer}
 
 -- settings as numbers
@@ -13,12 +12,12 @@ settings_of mps mrrs rcb = record { mps = mps; mrrs = mrrs; rcb = rcb }
 
 -- ---- writing: as record_answer says; reading is as read_number and read_record of tlp_record_read say
 
-abbrev pub size_written : WriteAnswer → ℕ → ℕ
-size_written (Written n) old = n
-size_written (NotWritten r) old = old
+abbrev pub size_written : Result ℕ Refusal → ℕ → ℕ
+size_written (Ok n) old = n
+size_written (Err r) old = old
 
 unfoldable pub write_number : Settings → List ℕ → ℕ → ℕ → ℕ
-write_number settings fields n room = number_of (record_answer settings fields n room)
+write_number settings fields n room = number_in (record_answer settings fields n room)
 
 -- the size afterwards: that of the packet, or as it was
 unfoldable pub written_size : Settings → List ℕ → ℕ → ℕ → ℕ → ℕ

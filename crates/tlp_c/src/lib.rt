@@ -2,15 +2,26 @@
 #![tactic(auto)]
 
 ghost use Rattle.std.specs.Prelude.{◌≡◌, length};
+ghost use Rattle.tlp.specs.Refusals.{number_in};
 ghost use Rattle.tlp_read.specs.Read.{read_packet};
 ghost use Rattle.tlp_c.specs.Calls.{settings_of, write_number, written_size};
 ghost use Rattle.tlp_record_read.specs.RecordRead.{read_number, read_record};
 ghost use Rattle.tlp_record_write.specs.RecordWrite.{record_out};
 
+use tlp::refusal::Refusal;
 use tlp::settings::Settings;
 use tlp_record_read::read_record;
 use tlp_record_write::write_record;
-use tlp_write::WriteAnswer;
+
+// The number of an answer; 0 for accepted.
+fn number_in(answer: Result<(), Refusal>) -> u32
+    ensures { result ≡ number_in answer }
+{
+    match answer {
+        Ok(()) => 0,
+        Err(refusal) => refusal.number(),
+    }
+}
 
 // Reads a packet. Answers 0 with the packet's record over the front of record, or the number of the refusal with record
 // as it was.
@@ -20,16 +31,13 @@ pub fn tollpebble_read(mps: u32, mrrs: u32, rcb: u32, packet: &[u8], record: &mu
     ensures record_after { «record».new
         ≡ read_record (read_packet (settings_of mps mrrs rcb) packet.now) «record».old }
 {
-    let settings = Settings {
-        mps: mps,
-        mrrs: mrrs,
-        rcb: rcb,
-    };
-    read_record(settings, packet, record)
+    let settings = Settings { mps, mrrs, rcb };
+    number_in(read_record(settings, packet, record))
 }
 
 // Writes the packet that record describes, with its payload, over the front of out. Answers 0 with the packet's size in
 // size, or the number of the refusal with out and size as they were.
+#[tactic(auto, unfolding(crate::specs::Calls::write_number, crate::specs::Calls::written_size))]
 pub fn tollpebble_write(
     mps: u32,
     mrrs: u32,
@@ -48,17 +56,12 @@ pub fn tollpebble_write(
         ≡ written_size (settings_of mps mrrs rcb) «record».now (length payload.now)
         (length out.old) size.old }
 {
-    let settings = Settings {
-        mps: mps,
-        mrrs: mrrs,
-        rcb: rcb,
-    };
-    let answer = write_record(settings, record, payload, out);
-    match answer {
-        WriteAnswer::Refused(n) => n,
-        WriteAnswer::Written(n) => {
+    let settings = Settings { mps, mrrs, rcb };
+    match write_record(settings, record, payload, out) {
+        Ok(n) => {
             *size = n as u64;
             0
         }
+        Err(refusal) => refusal.number(),
     }
 }

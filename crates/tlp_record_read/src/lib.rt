@@ -5,31 +5,29 @@ mod lay;
 
 ghost use Rattle.std.specs.Prelude.{◌≡◌, length};
 ghost use Rattle.tlp_read.specs.Read.{read_packet};
-ghost use Rattle.tlp_record_read.specs.RecordRead.{read_number, read_record};
+ghost use Rattle.tlp_record_read.specs.RecordRead.{read_answer, read_record};
 
 use bits::word::byte_at;
 use tlp::packet_type::family_by_type;
+use tlp::refusal::Refusal;
 use tlp::settings::Settings;
+use tlp_read::check;
 use tlp_read::fields::digest_word;
-use tlp_read::read_number;
 use tlp_record::places::RECORD_SIZE;
 
-// The packet's record over the front of what is lent for it, or the first number that is given, with the record as it
+// The packet's record over the front of what is lent for it, or the first refusal that is given, with the record as it
 // was.
-pub fn read_record(settings: Settings, packet: &[u8], record: &mut [u8]) -> u32
-    ensures value { result ≡ read_number (read_packet settings packet.now) (length «record».old) }
+pub fn read_record(settings: Settings, packet: &[u8], record: &mut [u8]) -> Result<(), Refusal>
+    ensures value { result ≡ read_answer (read_packet settings packet.now) (length «record».old) }
     ensures record_after { «record».new
         ≡ read_record (read_packet settings packet.now) «record».old }
 {
-    let n = read_number(settings, packet);
-    if n != 0 {
-        return n;
-    }
-    if record.len() < RECORD_SIZE {
-        return 12;
-    }
+    check(settings, packet)?;
+    let Some(front) = record.first_chunk_mut::<RECORD_SIZE>() else {
+        return Err(Refusal::OutputTooShort);
+    };
     let digest = digest_word(packet);
     let f = family_by_type(byte_at(packet, 0));
-    lay::put_record(f, digest, packet, record);
-    0
+    lay::put_record(f, digest, packet, front);
+    Ok(())
 }

@@ -8,11 +8,9 @@ use lib.Dec.{eqb, leb}
 use lib.ListN.{length}
 use lib.Pow.{low}
 use borrow.Author.Tests.{ne_eqb, lt-leb, eqb-true, eqb-false}
-use mir.Val.{Fits}
-use mir.Syntax.{w8}
 use Rattle.bits.specs.Choice.{pick}
 use Rattle.bits.specs.Field.{field}
-use Rattle.bits.specs.Word.{byte, word}
+use Rattle.bits.specs.Word.{byte, word, Bytes}
 use Rattle.bits.proofs.WordLaws.{AllBytes, word_lt, word_split}
 use Rattle.tlp.specs.PacketTypes.{family_of, is_io_or_config}
 use Rattle.tlp.specs.Packets.{address_of, type_in, type_of}
@@ -185,9 +183,9 @@ not-not : (b : Bool) → not (not b) ≡ b
 not-not true = refl
 not-not false = refl
 
-module _ (s : List ℕ) (len : length s ≡ 48) (each : (i : ℕ) → Fits w8 (byte s i)) (shared : shared_fits s ≡ true) where
+module _ (s : List ℕ) (len : length s ≡ 48) (each : Bytes s) (shared : shared_fits s ≡ true) where
   small : AllBytes s
-  small i h = (each i).fits
+  small i h = each i
 
   abbrev rest_at : ℕ → Bool
   rest_at n =
@@ -266,23 +264,23 @@ module _ (s : List ℕ) (len : length s ≡ 48) (each : (i : ℕ) → Fits w8 (b
       (length-first (outside 1024 (word 4 s 28)) (all_zero (byte s 7) (word 8 s 16) (word 2 s 40) (word 8 s 40 % 2 ^ 24) && (leb (byte s 43) 1 && eqb (word 2 s 38) 0)) (completion_over (byte s 42) (word 4 s 32) (byte s 44)) _ ∙ ap (λ (b : Bool). not (outside 1024 (word 4 s 28)) && b) (regrouped-three (all_zero (byte s 7) (word 8 s 16) (word 2 s 40) (word 8 s 40 % 2 ^ 24)) (leb (byte s 43) 1) (eqb (word 2 s 38) 0) _))
 
   module _ (n : ℕ) (e : n ≡ byte s 0) (r : Bool) where
-    pub memory-law : (n ≡ 0 → ⊥) → n ≤ 2 → r ≡ memory_fits s → r ≡ writable s
-    memory-law l h q = q ∙ sym (writable-at n e ∙ memory-at n e (omega (arith, l)) h)
+    pub memory-law : 1 ≤ n → n ≤ 2 → r ≡ memory_fits s → r ≡ writable s
+    memory-law l h q = q ∙ sym (writable-at n e ∙ memory-at n e l h)
 
-    pub io-law : 2 < n → n ≤ 4 → r ≡ io_fits s → r ≡ writable s
+    pub io-law : 3 ≤ n → n ≤ 4 → r ≡ io_fits s → r ≡ writable s
     io-law l h q = q ∙ sym (writable-at n e ∙ io-at n e l h)
 
-    pub config-law : 4 < n → n ≤ 8 → r ≡ config_fits s → r ≡ writable s
+    pub config-law : 5 ≤ n → n ≤ 8 → r ≡ config_fits s → r ≡ writable s
     config-law l h q = q ∙ sym (writable-at n e ∙ config-at n e l h)
 
-    pub message-law : 8 < n → n ≤ 10 → r ≡ message_fits (eqb n 10) s → r ≡ writable s
+    pub message-law : 9 ≤ n → n ≤ 10 → r ≡ message_fits (eqb n 10) s → r ≡ writable s
     message-law l h q = by (eqb n 10) refl q
       where
         by : (b : Bool) → eqb n 10 ≡ b → r ≡ message_fits b s → r ≡ writable s
         by true k q = let m : 10 ≡ byte s 0 = omega (arith, eqb-true n 10 k) in q ∙ sym (writable-at 10 m ∙ message-data m)
         by false k q = let m : 9 ≡ byte s 0 = omega (arith, eqb-false n 10 k) in q ∙ sym (writable-at 9 m ∙ message-bare m)
 
-    pub completion-law : 10 < n → n ≤ 12 → r ≡ completion_fits (eqb n 12) s → r ≡ writable s
+    pub completion-law : 11 ≤ n → n ≤ 12 → r ≡ completion_fits (eqb n 12) s → r ≡ writable s
     completion-law l h q = by (eqb n 12) refl q
       where
         by : (b : Bool) → eqb n 12 ≡ b → r ≡ completion_fits b s → r ≡ writable s

@@ -1,22 +1,24 @@
 -- What a record's kind decides is what the packet that it describes has.
-use Prim.Native.Nat.{ℕ, zero, suc, ◌%◌, ◌^◌, ◌≤◌, ◌<◌}
+use Prim.Native.Nat.{ℕ, zero, suc, ◌%◌, ◌^◌, ◌≤◌}
 use mathlib.Core.Path.{◌≡◌, refl, sym, ap, ◌∙◌}
 use mathlib.Core.Bool.{Bool, true, false, ◌&&◌, ◌||◌, not, true≢false, and-eq-true_iff}
 use mathlib.Core.List.{List, ◌++◌}
 use native.Mathlib.Omega.{arith}
 use lib.Dec.{eqb, leb, ltb}
 use lib.ListN.{length}
-use borrow.Author.Tests.{eqb-true, eqb-false, ne_eqb}
-use mir.Val.{Fits}
-use mir.Syntax.{w8}
+use borrow.Author.Tests.{eqb-true, eqb-false, not-true, not-false}
+use Rattle.std.specs.Prelude.{Some, None}
 use Rattle.bits.specs.Choice.{pick}
 use Rattle.bits.specs.Field.{field}
-use Rattle.bits.specs.Word.{byte, word, bytes}
+use Rattle.bits.specs.Word.{byte, word, bytes, Bytes}
 use Rattle.bits.proofs.ChoiceLaws.{pick-ap}
 use Rattle.byte_enables.specs.declared.Access.{Access}
 use Rattle.tlp.specs.Rows.{first}
+use Rattle.tlp.specs.Refusals.{checked}
+use Rattle.tlp.specs.declared.refusal.Refusal.{Refusal}
+use Rattle.std.specs.Prelude.{Result, Ok}
 use Rattle.tlp.specs.PacketTypes.{family_of}
-use Rattle.tlp.specs.Packets.{address_of, memory_form, type_in, type_of, access_at, access_in, access_of}
+use Rattle.tlp.specs.Packets.{address_of, type_in, type_of, access_at, access_in, access_of}
 use Rattle.tlp.specs.Contents.{plain_bad, enables_bad, page_bad, fault_rows}
 use Rattle.tlp.specs.Inner.Contents.{memory_rows, register_rows}
 use Rattle.tlp.specs.declared.packet.Route.{Route}
@@ -29,50 +31,24 @@ use Rattle.tlp.specs.declared.packet.CompletionHeader.{CompletionHeader}
 use Rattle.tlp.specs.declared.packet.Kind.{Kind}
 use Rattle.tlp.specs.declared.packet.Kind.TheVariants.{MemoryRead, MemoryWrite, IoRead, IoWrite, ConfigRead0, ConfigWrite0, ConfigRead1, ConfigWrite1, Message, MessageData, Completion, CompletionData}
 use Rattle.tlp.specs.declared.packet_type.PacketType.{PacketType}
-use Rattle.tlp.specs.declared.packet_type.PacketType.TheVariants.{MRd32, MRd64, MWr32, MWr64, IORd, IOWr, CfgWr1, Msg, MsgD, Cpl, CplD}
+use Rattle.tlp.specs.declared.packet_type.PacketType.TheVariants.{MRd32, MRd64, MWr32, MWr64}
 use Rattle.tlp.specs.declared.packet_type.Family.{Family}
 use Rattle.tlp.specs.declared.packet_type.Family.TheVariants.{Memory}
 use Rattle.tlp_write.specs.Layout.{routing, routing_in, request_bytes, memory_address, config_bytes, message_bytes, completion_bytes, own_bytes}
 use Rattle.tlp_write.specs.Inner.Padded.{padded}
-use Rattle.tlp_write.specs.Inner.Head.{word_bytes, IsHead}
-use Rattle.tlp_write.specs.declared.words.Words.{Words}
+use Rattle.tlp_write.specs.Inner.Head.{word_bytes}
 use Rattle.tlp_record.specs.Record.{request_in, config_in, message_in, completion_in, kind_numbered, kind_in, route_numbered, route_in, record_packet}
 use Rattle.tlp_record_write.specs.Inner.Fit.{writable}
-use Rattle.tlp_record_write.specs.Inner.Shared.{shared_fits}
 use Rattle.tlp_record_write.specs.Inner.Kinds.{all_zero, request_over, config_over, completion_over, length_kept, not_address, memory_fits, io_fits, config_fits, message_fits, completion_fits}
-use Rattle.tlp_record_write.specs.Inner.KindHead.{memory_type, config_type, case_routing, IsKindHead, JudgedHead}
+use Rattle.tlp_record_write.specs.Inner.KindHead.{type_numbered, case_routing, KindCase, IsKindHead, JudgedHead}
 use Rattle.tlp_record_write.specs.declared.kind_head.KindHead.{KindHead}
 use Rattle.tlp_record_write.proofs.Families.{memory-law, io-law, config-law, message-law, completion-law}
-use Rattle.tlp_record_write.proofs.Writable.{kind-below, kind-above}
-
--- ---- a kind's own fields
-
-module _ (s : List ℕ) where
-  pub request-in : (w t n f l : ℕ) → w ≡ word 2 s 36 → t ≡ byte s 6 → n ≡ word 4 s 28 → f ≡ byte s 38 → l ≡ byte s 39
-      → record { requester = w; tag = t; length = n; first = f; last = l } ≡ request_in s
-  unfolding request_in
-  request-in w t n f l a b c d e = rw (a, b, c, d, e)
-
-  pub config-in : (r : Request) (x y : ℕ) → r ≡ request_in s → x ≡ byte s 40 → y ≡ byte s 41
-      → record { request = r; extended_register = x; register = y } ≡ config_in s
-  unfolding config_in
-  config-in r x y a b c = rw (a, b, c)
-
-  pub message-in : (w t c b : ℕ) → w ≡ word 2 s 36 → t ≡ byte s 6 → c ≡ byte s 7 → b ≡ word 8 s 16
-      → record { requester = w; tag = t; code = c; body = b } ≡ message_in s
-  unfolding message_in
-  message-in w t c b p q r u = rw (p, q, r, u)
-
-  pub completion-in : (w t m n g l : ℕ) → w ≡ word 2 s 36 → t ≡ byte s 42 → m ≡ byte s 43 → n ≡ word 4 s 32 → g ≡ byte s 6 → l ≡ byte s 44
-      → record { completer = w; status = t; byte_count_modified = eqb m 1; byte_count = n; tag = g; lower_address = l } ≡ completion_in s
-  unfolding completion_in
-  completion-in w t m n g l a b c d e f = rw (a, b, c, d, e, f)
 
 -- ---- from a route and a kind
 
 module _ (s : List ℕ) (o : KindHead) (r : Route) (k : Kind) (er : route_in s ≡ r) (ek : kind_in s ≡ k) where
   head_of : o.packet_type ≡ type_in (address_of r) k → o.routing ≡ routing_in r k
-      → o.fault ≡ first (fault_rows (family_of (type_in (address_of r) k)) (access_in (address_of r) k) (byte s 1) (byte s 2) 0)
+      → o.fault ≡ checked (first (fault_rows (family_of (type_in (address_of r) k)) (access_in (address_of r) k) (byte s 1) (byte s 2) 0))
       → word_bytes o.words ≡ padded 12 (own_bytes r k) → word 4 s 28 ≡ (access_in (address_of r) k).length → IsKindHead o s
   unfolding type_of access_of record_packet
   head_of et eg ef ew el = record {
@@ -160,7 +136,7 @@ memory-family : (b : Bool) (x y : PacketType) → family_of x ≡ Memory → fam
 memory-family true x y e h = e
 memory-family false x y e h = h
 
-memory-faults : (f : Family) (a : Access) (tc attr m : ℕ) → f ≡ Memory → m ≡ first (memory_rows a) → m ≡ first (fault_rows f a tc attr 0)
+memory-faults : (f : Family) (a : Access) (tc attr : ℕ) (m : Result Unit Refusal) → f ≡ Memory → m ≡ checked (first (memory_rows a)) → m ≡ checked (first (fault_rows f a tc attr 0))
 unfolding first plain_bad enables_bad page_bad
 memory-faults f a tc attr m e q = rw e q
 
@@ -169,7 +145,7 @@ module _ (s : List ℕ) (o : KindHead) (n : ℕ) (e : n ≡ byte s 0) where
     access-is : a ≡ access_at (word 8 s 8) (request_in s)
     access-is = rw (← ev, ← eq) ea
 
-    memory-head : 0 < n → n ≤ 2 → memory_fits s ≡ true → o.packet_type ≡ memory_type n v → o.routing ≡ 0 → o.fault ≡ first (memory_rows a)
+    memory-head : 1 ≤ n → n ≤ 2 → memory_fits s ≡ true → o.packet_type ≡ type_numbered n (word 8 s 8) → o.routing ≡ 0 → o.fault ≡ checked (first (memory_rows a))
         → word_bytes o.words ≡ padded 12 (request_bytes q ++ memory_address v) → IsKindHead o s
     unfolding routing_in own_bytes request_in
     memory-head l h fits et eg ef ew = by n refl
@@ -177,37 +153,33 @@ module _ (s : List ℕ) (o : KindHead) (n : ℕ) (e : n ≡ byte s 0) where
         words : word_bytes o.words ≡ padded 12 (request_bytes (request_in s) ++ memory_address (word 8 s 8))
         words = ew ∙ ap (λ (x : Request). padded 12 (request_bytes x ++ memory_address v)) eq ∙ ap (λ (x : ℕ). padded 12 (request_bytes (request_in s) ++ memory_address x)) ev
 
-        faults : o.fault ≡ first (memory_rows (access_at (word 8 s 8) (request_in s)))
-        faults = ef ∙ ap (λ (x : Access). first (memory_rows x)) access-is
+        faults : o.fault ≡ checked (first (memory_rows (access_at (word 8 s 8) (request_in s))))
+        faults = ef ∙ ap (λ (x : Access). checked (first (memory_rows x))) access-is
 
         by : (m : ℕ) → n ≡ m → IsKindHead o s
         by zero k = absurd (omega (arith, l, k))
         by (suc zero) k =
             head_of s o (Address (word 8 s 8)) (MemoryRead (request_in s)) (memory-route s fits) (kind_at s 1 (sym k ∙ e))
-            (et ∙ rw (k, ev)) eg
+            (et ∙ rw k) eg
             (memory-faults _ _ (byte s 1) (byte s 2) o.fault (memory-family (ltb (word 8 s 8) (2 ^ 32)) MRd32 MRd64 refl refl) faults)
             words refl
         by (suc (suc zero)) k =
             head_of s o (Address (word 8 s 8)) (MemoryWrite (request_in s)) (memory-route s fits) (kind_at s 2 (sym k ∙ e))
-            (et ∙ rw (k, ev)) eg
+            (et ∙ rw k) eg
             (memory-faults _ _ (byte s 1) (byte s 2) o.fault (memory-family (ltb (word 8 s 8) (2 ^ 32)) MWr32 MWr64 refl refl) faults)
             words refl
         by (suc (suc (suc m))) k = absurd (omega (arith, h, k))
 
-    io-head : (b1 b2 : ℕ) → b1 ≡ byte s 1 → b2 ≡ byte s 2 → 2 < n → n ≤ 4 → io_fits s ≡ true → o.packet_type ≡ pick (eqb n 3) IORd IOWr → o.routing ≡ 0
-        → o.fault ≡ first (register_rows a b1 b2 0) → word_bytes o.words ≡ padded 12 (request_bytes q ++ bytes 4 v) → IsKindHead o s
+    io-head : 3 ≤ n → n ≤ 4 → io_fits s ≡ true → o.packet_type ≡ type_numbered n (word 8 s 8) → o.routing ≡ 0
+        → o.fault ≡ checked (first (register_rows a (byte s 1) (byte s 2) 0)) → word_bytes o.words ≡ padded 12 (request_bytes q ++ bytes 4 v) → IsKindHead o s
     unfolding routing_in own_bytes request_in first plain_bad enables_bad page_bad
-    io-head b1 b2 e1 e2 l h fits et eg ef ew = by n refl
+    io-head l h fits et eg ef ew = by n refl
       where
         words : word_bytes o.words ≡ padded 12 (request_bytes (request_in s) ++ bytes 4 (word 8 s 8))
         words = ew ∙ ap (λ (x : Request). padded 12 (request_bytes x ++ bytes 4 v)) eq ∙ ap (λ (x : ℕ). padded 12 (request_bytes (request_in s) ++ bytes 4 x)) ev
 
-        faults : o.fault ≡ first (register_rows (access_at (word 8 s 8) (request_in s)) (byte s 1) (byte s 2) 0)
-        faults =
-            ef
-            ∙ ap (λ (x : ℕ). first (register_rows a x b2 0)) e1
-            ∙ ap (λ (x : ℕ). first (register_rows a (byte s 1) x 0)) e2
-            ∙ ap (λ (x : Access). first (register_rows x (byte s 1) (byte s 2) 0)) access-is
+        faults : o.fault ≡ checked (first (register_rows (access_at (word 8 s 8) (request_in s)) (byte s 1) (byte s 2) 0))
+        faults = ef ∙ ap (λ (x : Access). checked (first (register_rows x (byte s 1) (byte s 2) 0))) access-is
 
         by : (m : ℕ) → n ≡ m → IsKindHead o s
         by zero k = absurd (omega (arith, l, k))
@@ -219,21 +191,19 @@ module _ (s : List ℕ) (o : KindHead) (n : ℕ) (e : n ≡ byte s 0) where
             head_of s o (Address (word 8 s 8)) (IoWrite (request_in s)) (io-route s fits) (kind_at s 4 (sym k ∙ e)) (et ∙ rw k) eg faults words refl
         by (suc (suc (suc (suc (suc m))))) k = absurd (omega (arith, h, k))
 
-  config-head : (q : ConfigRequest) (i : ℕ) (a : Access) (b1 b2 : ℕ) → q ≡ config_in s → i ≡ word 2 s 14 → a ≡ access_at 0 q.request → b1 ≡ byte s 1 → b2 ≡ byte s 2
-      → 4 < n → n ≤ 8 → config_fits s ≡ true → o.packet_type ≡ config_type n → o.routing ≡ 0 → o.fault ≡ first (register_rows a b1 b2 0)
+  config-head : (q : ConfigRequest) (i : ℕ) (a : Access) → q ≡ config_in s → i ≡ word 2 s 14 → a ≡ access_at 0 q.request
+      → 5 ≤ n → n ≤ 8 → config_fits s ≡ true → o.packet_type ≡ type_numbered n (word 8 s 8) → o.routing ≡ 0 → o.fault ≡ checked (first (register_rows a (byte s 1) (byte s 2) 0))
       → word_bytes o.words ≡ padded 12 (config_bytes i q) → IsKindHead o s
   unfolding routing_in own_bytes config_in request_in first plain_bad enables_bad page_bad
-  config-head q i a b1 b2 eq ei ea e1 e2 l h fits et eg ef ew = by n refl
+  config-head q i a eq ei ea l h fits et eg ef ew = by n refl
     where
       words : word_bytes o.words ≡ padded 12 (config_bytes (word 2 s 14) (config_in s))
       words = ew ∙ ap (λ (x : ConfigRequest). padded 12 (config_bytes i x)) eq ∙ ap (λ (x : ℕ). padded 12 (config_bytes x (config_in s))) ei
 
-      faults : o.fault ≡ first (register_rows (access_at 0 (config_in s).request) (byte s 1) (byte s 2) 0)
+      faults : o.fault ≡ checked (first (register_rows (access_at 0 (config_in s).request) (byte s 1) (byte s 2) 0))
       faults =
           ef
-          ∙ ap (λ (x : ℕ). first (register_rows a x b2 0)) e1
-          ∙ ap (λ (x : ℕ). first (register_rows a (byte s 1) x 0)) e2
-          ∙ ap (λ (x : Access). first (register_rows x (byte s 1) (byte s 2) 0)) (ea ∙ ap (λ (x : ConfigRequest). access_at 0 x.request) eq)
+          ∙ ap (λ (x : Access). checked (first (register_rows x (byte s 1) (byte s 2) 0))) (ea ∙ ap (λ (x : ConfigRequest). access_at 0 x.request) eq)
 
       by : (m : ℕ) → n ≡ m → IsKindHead o s
       by zero k = absurd (omega (arith, l, k))
@@ -262,27 +232,29 @@ module _ (s : List ℕ) (o : KindHead) (n : ℕ) (e : n ≡ byte s 0) where
         pick-ap routing (eqb m 5) (Implied Gathered) _,
       )
 
-  message-head : (m : MessageRequest) (b5 : ℕ) → m ≡ message_in s → b5 ≡ byte s 5 → 8 < n → n ≤ 10 → message_fits (eqb n 10) s ≡ true
-      → o.packet_type ≡ pick (eqb n 10) MsgD Msg → o.routing ≡ case_routing b5 → o.fault ≡ 0 → word_bytes o.words ≡ message_bytes m → IsKindHead o s
+  message-head : (m : MessageRequest) → m ≡ message_in s → 9 ≤ n → n ≤ 10 → message_fits (eqb n 10) s ≡ true
+      → o.packet_type ≡ type_numbered n (word 8 s 8) → o.routing ≡ case_routing (byte s 5) → o.fault ≡ Ok tt → word_bytes o.words ≡ message_bytes m → IsKindHead o s
   unfolding routing_in own_bytes first plain_bad enables_bad page_bad
-  message-head m b5 em e5 l h fits et eg ef ew = by (eqb n 10) refl
+  message-head m em l h fits et eg ef ew = by (eqb n 10) refl
     where
       routes : o.routing ≡ routing (route_numbered (byte s 5) s)
-      routes = eg ∙ ap (λ (x : ℕ). case_routing x) e5 ∙ sym (routing-at (byte s 5))
+      routes = eg ∙ sym (routing-at (byte s 5))
 
       words : word_bytes o.words ≡ message_bytes (message_in s)
       words = ew ∙ ap (λ (x : MessageRequest). message_bytes x) em
 
       by : (b : Bool) → eqb n 10 ≡ b → IsKindHead o s
       by true k =
-          let m : 10 ≡ byte s 0 = sym (eqb-true n 10 k) ∙ e in
-          head_of s o (route_numbered (byte s 5) s) (MessageData (message_in s) (word 4 s 28)) (route-at s (byte s 5) refl) (kind_at s 10 m) (et ∙ rw k) routes ef words refl
+          let j : n ≡ 10 = eqb-true n 10 k in
+          let m : 10 ≡ byte s 0 = sym j ∙ e in
+          head_of s o (route_numbered (byte s 5) s) (MessageData (message_in s) (word 4 s 28)) (route-at s (byte s 5) refl) (kind_at s 10 m) (et ∙ rw j) routes ef words refl
       by false k =
-          let m : 9 ≡ byte s 0 = omega (arith, eqb-false n 10 k, e, l, h) in
-          head_of s o (route_numbered (byte s 5) s) (Message (message_in s)) (route-at s (byte s 5) refl) (kind_at s 9 m) (et ∙ rw k) routes ef words (message-bare-length s (rw k at fits))
+          let j : n ≡ 9 = omega (arith, eqb-false n 10 k, l, h) in
+          let m : 9 ≡ byte s 0 = sym j ∙ e in
+          head_of s o (route_numbered (byte s 5) s) (Message (message_in s)) (route-at s (byte s 5) refl) (kind_at s 9 m) (et ∙ rw j) routes ef words (message-bare-length s (rw k at fits))
 
-  completion-head : (c : CompletionHeader) (i : ℕ) → c ≡ completion_in s → i ≡ word 2 s 14 → 10 < n → n ≤ 12 → completion_fits (eqb n 12) s ≡ true
-      → o.packet_type ≡ pick (eqb n 12) CplD Cpl → o.routing ≡ 0 → o.fault ≡ 0 → word_bytes o.words ≡ padded 12 (completion_bytes i c) → IsKindHead o s
+  completion-head : (c : CompletionHeader) (i : ℕ) → c ≡ completion_in s → i ≡ word 2 s 14 → 11 ≤ n → n ≤ 12 → completion_fits (eqb n 12) s ≡ true
+      → o.packet_type ≡ type_numbered n (word 8 s 8) → o.routing ≡ 0 → o.fault ≡ Ok tt → word_bytes o.words ≡ padded 12 (completion_bytes i c) → IsKindHead o s
   unfolding routing_in own_bytes first plain_bad enables_bad page_bad
   completion-head c i ec ei l h fits et eg ef ew = by (eqb n 12) refl
     where
@@ -291,110 +263,82 @@ module _ (s : List ℕ) (o : KindHead) (n : ℕ) (e : n ≡ byte s 0) where
 
       by : (b : Bool) → eqb n 12 ≡ b → IsKindHead o s
       by true k =
-          let m : 12 ≡ byte s 0 = sym (eqb-true n 12 k) ∙ e in
-          head_of s o (Id (word 2 s 14)) (CompletionData (completion_in s) (word 4 s 28)) (completion-route s _ fits) (kind_at s 12 m) (et ∙ rw k) eg ef words refl
+          let j : n ≡ 12 = eqb-true n 12 k in
+          let m : 12 ≡ byte s 0 = sym j ∙ e in
+          head_of s o (Id (word 2 s 14)) (CompletionData (completion_in s) (word 4 s 28)) (completion-route s _ fits) (kind_at s 12 m) (et ∙ rw j) eg ef words refl
       by false k =
-          let m : 11 ≡ byte s 0 = omega (arith, eqb-false n 12 k, e, l, h) in
-          head_of s o (Id (word 2 s 14)) (Completion (completion_in s)) (completion-route s _ fits) (kind_at s 11 m) (et ∙ rw k) eg ef words (completion-bare-length s (rw k at fits))
+          let j : n ≡ 11 = omega (arith, eqb-false n 12 k, l, h) in
+          let m : 11 ≡ byte s 0 = sym j ∙ e in
+          head_of s o (Id (word 2 s 14)) (Completion (completion_in s)) (completion-route s _ fits) (kind_at s 11 m) (et ∙ rw j) eg ef words (completion-bare-length s (rw k at fits))
 
--- ---- in the words of the returns
+-- ---- in the words of the returns, b whether the record fits
 
-module _ (s : List ℕ) (len : length s ≡ 48) (each : (i : ℕ) → Fits w8 (byte s i)) (shared : shared_fits s ≡ true) (n : ℕ) (e : n ≡ byte s 0) (fits : Bool) (t : PacketType)
-    (w : Words) where
-  module _ (f : ℕ) where
-    abbrev plain_head : KindHead
-    plain_head = record { fits = fits; packet_type = t; routing = 0; fault = f; words = w }
+module _ (s : List ℕ) (len : length s ≡ 48) (each : Bytes s) (b : Bool) where
+  unfit : b ≡ writable s → not b ≡ true → JudgedHead None s
+  unfit e h = sym e ∙ not-true b h
 
-    module _ (q : Request) (v : ℕ) (a : Access) (eq : q ≡ request_in s) (ev : v ≡ word 8 s 8) (ea : a ≡ access_at v q) where
-      pub memory-is : 0 < n → n ≤ 2 → fits ≡ memory_fits s → t ≡ memory_type n v → f ≡ first (memory_rows a)
-          → word_bytes w ≡ padded 12 (request_bytes q ++ memory_address v) → JudgedHead plain_head s
-      memory-is l h ef et er ew =
-          (memory-law s len each shared n e fits (λ z. omega (arith, l, z)) h ef, λ g. memory-head s plain_head n e q v a eq ev ea l h (sym ef ∙ g) et refl er ew)
+  fit : b ≡ writable s → not b ≡ false → (o : KindHead) → IsKindHead o s → JudgedHead (Some o) s
+  fit e h o i = (sym e ∙ not-false b h, i)
 
-      pub io-is : (b1 b2 : ℕ) → b1 ≡ byte s 1 → b2 ≡ byte s 2 → 2 < n → n ≤ 4 → fits ≡ io_fits s → t ≡ pick (eqb n 3) IORd IOWr → f ≡ first (register_rows a b1 b2 0)
-          → word_bytes w ≡ padded 12 (request_bytes q ++ bytes 4 v) → JudgedHead plain_head s
-      io-is b1 b2 e1 e2 l h ef et er ew =
-          (io-law s len each shared n e fits l h ef, λ g. io-head s plain_head n e q v a eq ev ea b1 b2 e1 e2 l h (sym ef ∙ g) et refl er ew)
+  module _ (k : KindCase 1 2 s) (eb : b ≡ memory_fits s) where
+    memory-written : b ≡ writable s
+    memory-written = memory-law s len each k.shared (byte s 0) refl b k.from k.upto eb
 
-    pub config-is : (q : ConfigRequest) (i : ℕ) (a : Access) (b1 b2 : ℕ) → q ≡ config_in s → i ≡ word 2 s 14 → a ≡ access_at 0 q.request → b1 ≡ byte s 1 → b2 ≡ byte s 2
-        → 4 < n → n ≤ 8 → fits ≡ config_fits s → t ≡ config_type n → f ≡ first (register_rows a b1 b2 0) → word_bytes w ≡ padded 12 (config_bytes i q) → JudgedHead plain_head s
-    config-is q i a b1 b2 eq ei ea e1 e2 l h ef et er ew =
-        (config-law s len each shared n e fits l h ef, λ g. config-head s plain_head n e q i a b1 b2 eq ei ea e1 e2 l h (sym ef ∙ g) et refl er ew)
+    pub memory-none : not b ≡ true → JudgedHead None s
+    memory-none h = unfit memory-written h
 
-  pub message-is : (m : MessageRequest) (b5 r : ℕ) → m ≡ message_in s → b5 ≡ byte s 5 → 8 < n → n ≤ 10 → fits ≡ message_fits (eqb n 10) s → t ≡ pick (eqb n 10) MsgD Msg
-      → r ≡ case_routing b5 → word_bytes w ≡ message_bytes m → JudgedHead (record { fits = fits; packet_type = t; routing = r; fault = 0; words = w }) s
-  message-is m b5 r em e5 l h ef et er ew =
-      (message-law s len each shared n e fits l h ef, λ g. message-head s _ n e m b5 em e5 l h (sym ef ∙ g) et er refl ew)
+    pub memory-some : (q : Request) (v : ℕ) (a : Access) (o : KindHead) → not b ≡ false → q ≡ request_in s → v ≡ word 8 s 8 → a ≡ access_at v q
+        → o.packet_type ≡ type_numbered (byte s 0) (word 8 s 8) → o.routing ≡ 0 → o.fault ≡ checked (first (memory_rows a))
+        → word_bytes o.words ≡ padded 12 (request_bytes q ++ memory_address v) → JudgedHead (Some o) s
+    memory-some q v a o h eq ev ea et eg ef ew =
+        fit memory-written h o (memory-head s o (byte s 0) refl q v a eq ev ea k.from k.upto (sym eb ∙ not-false b h) et eg ef ew)
 
-  pub completion-is : (c : CompletionHeader) (i : ℕ) → c ≡ completion_in s → i ≡ word 2 s 14 → 10 < n → n ≤ 12 → fits ≡ completion_fits (eqb n 12) s
-      → t ≡ pick (eqb n 12) CplD Cpl → word_bytes w ≡ padded 12 (completion_bytes i c) → JudgedHead (plain_head 0) s
-  completion-is c i ec ei l h ef et ew =
-      (completion-law s len each shared n e fits l h ef, λ g. completion-head s (plain_head 0) n e c i ec ei l h (sym ef ∙ g) et refl refl ew)
+  module _ (k : KindCase 3 4 s) (eb : b ≡ io_fits s) where
+    io-written : b ≡ writable s
+    io-written = io-law s len each k.shared (byte s 0) refl b k.from k.upto eb
 
-module _ (s : List ℕ) (o : KindHead) (e : o.fits ≡ false) where
-  none_is : false ≡ writable s → JudgedHead o s
-  none_is h = (e ∙ h, λ g. absurd (true≢false (sym g ∙ e)))
+    pub io-none : not b ≡ true → JudgedHead None s
+    io-none h = unfit io-written h
 
-  pub below-is : (n : ℕ) → n ≡ byte s 0 → n ≡ 0 → JudgedHead o s
-  below-is n k z = none_is (kind-below s n k z)
+    pub io-some : (q : Request) (v : ℕ) (a : Access) (o : KindHead) → not b ≡ false → q ≡ request_in s → v ≡ word 8 s 8 → a ≡ access_at v q
+        → o.packet_type ≡ type_numbered (byte s 0) (word 8 s 8) → o.routing ≡ 0 → o.fault ≡ checked (first (register_rows a (byte s 1) (byte s 2) 0))
+        → word_bytes o.words ≡ padded 12 (request_bytes q ++ bytes 4 v) → JudgedHead (Some o) s
+    io-some q v a o h eq ev ea et eg ef ew =
+        fit io-written h o (io-head s o (byte s 0) refl q v a eq ev ea k.from k.upto (sym eb ∙ not-false b h) et eg ef ew)
 
-  pub above-is : (n : ℕ) → n ≡ byte s 0 → 12 < n → JudgedHead o s
-  above-is n k h = none_is (kind-above s n k h)
+  module _ (k : KindCase 5 8 s) (eb : b ≡ config_fits s) where
+    config-written : b ≡ writable s
+    config-written = config-law s len each k.shared (byte s 0) refl b k.from k.upto eb
 
--- ---- types and routings
+    pub config-none : not b ≡ true → JudgedHead None s
+    config-none h = unfit config-written h
 
-module _ (n a : ℕ) (t : PacketType) where
-  pub type-read : n ≡ 1 → t ≡ memory_form a MRd32 MRd64 → t ≡ memory_type n a
-  type-read e q = rw e q
+    pub config-some : (q : ConfigRequest) (i : ℕ) (a : Access) (o : KindHead) → not b ≡ false → q ≡ config_in s → i ≡ word 2 s 14 → a ≡ access_at 0 q.request
+        → o.packet_type ≡ type_numbered (byte s 0) (word 8 s 8) → o.routing ≡ 0 → o.fault ≡ checked (first (register_rows a (byte s 1) (byte s 2) 0))
+        → word_bytes o.words ≡ padded 12 (config_bytes i q) → JudgedHead (Some o) s
+    config-some q i a o h eq ei ea et eg ef ew =
+        fit config-written h o (config-head s o (byte s 0) refl q i a eq ei ea k.from k.upto (sym eb ∙ not-false b h) et eg ef ew)
 
-  pub type-write : (n ≡ 1 → ⊥) → t ≡ memory_form a MWr32 MWr64 → t ≡ memory_type n a
-  type-write e q = rw (ne_eqb n 1 e) q
+  module _ (k : KindCase 9 10 s) (eb : b ≡ message_fits (eqb (byte s 0) 10) s) where
+    message-written : b ≡ writable s
+    message-written = message-law s len each k.shared (byte s 0) refl b k.from k.upto eb
 
-module _ (b : Bool) (x y : PacketType) where
-  pub type-first : b ≡ true → x ≡ pick b x y
-  type-first e = rw e
+    pub message-none : not b ≡ true → JudgedHead None s
+    message-none h = unfit message-written h
 
-  pub type-second : b ≡ false → y ≡ pick b x y
-  type-second e = rw e
+    pub message-some : (m : MessageRequest) (o : KindHead) → not b ≡ false → m ≡ message_in s → o.packet_type ≡ type_numbered (byte s 0) (word 8 s 8)
+        → o.routing ≡ case_routing (byte s 5) → o.fault ≡ Ok tt → word_bytes o.words ≡ message_bytes m → JudgedHead (Some o) s
+    message-some m o h em et eg ef ew =
+        fit message-written h o (message-head s o (byte s 0) refl m em k.from k.upto (sym eb ∙ not-false b h) et eg ef ew)
 
-pub config-key : (n m : ℕ) (t : PacketType) → n ≡ m → t ≡ config_type m → t ≡ config_type n
-config-key n m t e q = rw e q
+  module _ (k : KindCase 11 12 s) (eb : b ≡ completion_fits (eqb (byte s 0) 12) s) where
+    completion-written : b ≡ writable s
+    completion-written = completion-law s len each k.shared (byte s 0) refl b k.from k.upto eb
 
-pub config-rest : (n : ℕ) → (n ≡ 5 → ⊥) → (n ≡ 6 → ⊥) → (n ≡ 7 → ⊥) → CfgWr1 ≡ config_type n
-config-rest n h5 h6 h7 = rw (ne_eqb n 5 h5, ne_eqb n 6 h6, ne_eqb n 7 h7)
+    pub completion-none : not b ≡ true → JudgedHead None s
+    completion-none h = unfit completion-written h
 
-pub routing-key : (n m r : ℕ) → n ≡ m → r ≡ case_routing m → r ≡ case_routing n
-routing-key n m r e q = rw e q
-
-pub routing-rest : (n : ℕ) → (n ≡ 1 → ⊥) → (n ≡ 2 → ⊥) → (n ≡ 3 → ⊥) → (n ≡ 4 → ⊥) → (n ≡ 5 → ⊥) → 1 ≡ case_routing n
-routing-rest n h1 h2 h3 h4 h5 = rw (ne_eqb n 1 h1, ne_eqb n 2 h2, ne_eqb n 3 h3, ne_eqb n 4 h4, ne_eqb n 5 h5)
-
--- ---- with what every kind has alike
-
-pub head-is : (s : List ℕ) (o : KindHead) (t : PacketType) (w : Words) (b1 b2 b3 b4 d n : ℕ) → IsKindHead o s → t ≡ o.packet_type → w ≡ o.words
-    → b1 ≡ byte s 1 → b2 ≡ byte s 2 → b3 ≡ byte s 3 → b4 ≡ byte s 4 → d ≡ word 4 s 24 → n ≡ word 4 s 28
-    → IsHead (record {
-      packet_type = t;
-      routing = o.routing;
-      fault = o.fault;
-      words = w;
-      traffic_class = b1;
-      attributes = b2;
-      poisoned = eqb b3 1;
-      has_digest = eqb b4 1;
-      digest = d;
-      length = n;
-    }) (record_packet s)
-unfolding record_packet
-head-is s o t w b1 b2 b3 b4 d n i et ew e1 e2 e3 e4 ed en = record {
-  type_is = et ∙ i.type_is;
-  routing_is = i.routing_is;
-  fault_is = i.fault_is;
-  words_are = ap (λ (x : Words). word_bytes x) ew ∙ i.words_are;
-  class_is = e1;
-  attributes_are = e2;
-  poisoned_is = rw e3;
-  digest_told = rw e4;
-  digest_is = ed;
-  length_is = en ∙ i.length_is;
-}
+    pub completion-some : (c : CompletionHeader) (i : ℕ) (o : KindHead) → not b ≡ false → c ≡ completion_in s → i ≡ word 2 s 14
+        → o.packet_type ≡ type_numbered (byte s 0) (word 8 s 8) → o.routing ≡ 0 → o.fault ≡ Ok tt → word_bytes o.words ≡ padded 12 (completion_bytes i c) → JudgedHead (Some o) s
+    completion-some c i o h ec ei et eg ef ew =
+        fit completion-written h o (completion-head s o (byte s 0) refl c i ec ei k.from k.upto (sym eb ∙ not-false b h) et eg ef ew)

@@ -7,11 +7,9 @@ use native.Mathlib.Nat.{zero-mul, zero-add, suc-mul, one-le-pow, zero-lt-suc}
 use native.Mathlib.Omega.{arith}
 use lib.Dec.{eqb, leb, ltb}
 use lib.ListN.{length}
-use borrow.Author.Tests.{eq-eqb, ne_eqb, eqb-true, lt-ltb, ltb-true, lt-leb, not-true, not-false}
-use mir.Val.{Fits}
-use mir.Syntax.{w8}
+use borrow.Author.Tests.{eq-eqb, ne_eqb, eqb-true, lt-ltb, ltb-true, lt-leb}
 use Rattle.bits.specs.Choice.{pick, flag}
-use Rattle.bits.specs.Word.{byte, word}
+use Rattle.bits.specs.Word.{byte, word, Bytes}
 use Rattle.bits.proofs.WordLaws.{AllBytes, word_lt, word_split}
 use Rattle.tlp.specs.Rows.{first}
 use Rattle.tlp_writable.specs.Given.{common_bad, own_bad, reserved_given, route_bad, given_rows}
@@ -113,11 +111,8 @@ module _ (s : List ℕ) (len : length s ≡ 48) (small : AllBytes s) where
   unfolding writable shared_fits
   writable-is h = ap (λ (b : Bool). b && eqb (first (given_rows (record_packet s))) 0) record_is ∙ rw given_is (shared-yes (flags_kept (byte s 3) (byte s 4)) (route_kept (byte s 5) (word 8 s 8)) _ (not (common_bad (record_packet s))) _ h)
 
-pub not-shared : (s : List ℕ) (r : Bool) → length s ≡ 48 → ((i : ℕ) → Fits w8 (byte s i)) → r ≡ shared_fits s → not r ≡ true → false ≡ writable s
-not-shared s r len small e h = shared-fails s len (λ i l. (small i).fits) (sym e ∙ not-true r h)
-
-pub shared-holds : (s : List ℕ) (r : Bool) → r ≡ shared_fits s → not r ≡ false → shared_fits s ≡ true
-shared-holds s r e h = sym e ∙ not-false r h
+pub not-shared : (s t : List ℕ) → length s ≡ 48 → t ≡ s → Bytes s → false ≡ shared_fits t → writable s ≡ false
+not-shared s t len e small h = sym (shared-fails s len (λ i l. small i) (sym (rw e at h)))
 
 no_record : (s : List ℕ) → (is_record s ≡ true → ⊥) → false ≡ writable s
 unfolding writable
@@ -127,15 +122,11 @@ no_record s h = by (is_record s) refl
     by true e = absurd (h e)
     by false e = rw e
 
-pub not-long : (s : List ℕ) → (length s ≡ 48 → ⊥) → false ≡ writable s
-not-long s h = no_record s (λ e. h (record-length s e))
+pub not-long : (s : List ℕ) → (length s ≡ 48 → ⊥) → writable s ≡ false
+not-long s h = sym (no_record s (λ e. h (record-length s e)))
 
-module _ (s : List ℕ) (n : ℕ) (e : n ≡ byte s 0) where
-  pub kind-below : n ≡ 0 → false ≡ writable s
-  kind-below h = no_record s (λ r. omega (arith, (record-kind s r).0))
-
-  pub kind-above : 12 < n → false ≡ writable s
-  kind-above h = no_record s (λ r. omega (arith, (record-kind s r).1))
+pub kind-unknown : (s : List ℕ) → ((1 ≤ byte s 0) × (byte s 0 ≤ 12) → ⊥) → writable s ≡ false
+kind-unknown s h = sym (no_record s (λ r. h (record-kind s r)))
 
 -- ---- words that are zero
 

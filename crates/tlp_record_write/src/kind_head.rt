@@ -1,25 +1,26 @@
 // What a record's kind decides: whether it can be written, and the part of its head that not every kind has alike. One
 // branch by kind for both.
-ghost use Rattle.std.specs.Prelude.{◌≡◌, true, false, ◌≤◌, ◌<◌, length};
-ghost use Rattle.bits.specs.Choice.{pick};
-ghost use Rattle.bits.specs.Word.{byte};
+ghost use Rattle.std.specs.Prelude.{◌≡◌, true};
+ghost use Rattle.bits.specs.Word.{byte, word};
 ghost use Rattle.tlp_record.specs.Record.{request_in, config_in, message_in, completion_in, record_packet};
-ghost use Rattle.tlp_record.specs.Places.{record_size, kind_place};
+ghost use Rattle.tlp_record.specs.Places.{kind_place, route_place, route_value_place};
 ghost use Rattle.tlp_write.specs.Inner.Head.{IsHead};
 ghost use Rattle.tlp_record_write.specs.Inner.Shared.{shared_fits};
-ghost use Rattle.tlp_record_write.specs.Inner.KindHead.{memory_type, config_type, case_routing, IsKindHead, JudgedHead};
+ghost use Rattle.tlp_record_write.specs.Inner.KindHead.{type_numbered, case_routing, KindCase, IsKindHead, JudgedHead};
 
 use crate::kinds::{completion_fits, config_fits, io_fits, memory_fits, message_fits};
-use crate::place::{eight, four, one, two};
+use crate::place::{eight, four, two};
 use tlp::content::{memory_fault, register_fault};
 use tlp::packet::{
     CompletionHeader, ConfigRequest, MessageRequest, Request, access_at, memory_form,
 };
 use tlp::packet_type::PacketType;
+use tlp::refusal::Refusal;
 use tlp_record::places::{
     ATTRIBUTES, BYTE_COUNT, BYTE_COUNT_MODIFIED, DIGEST, DIGEST_PRESENT, EXTENDED_REGISTER,
     FIRST_ENABLES, KIND, LAST_ENABLES, LENGTH, LOWER_ADDRESS, MESSAGE_BYTES, MESSAGE_CODE,
-    POISONED, REGISTER, ROUTE, ROUTE_ID, ROUTE_VALUE, SOURCE_ID, STATUS, TAG, TRAFFIC_CLASS,
+    POISONED, RECORD_SIZE, REGISTER, ROUTE, ROUTE_ID, ROUTE_VALUE, SOURCE_ID, STATUS, TAG,
+    TRAFFIC_CLASS,
 };
 use tlp_write::head::Head;
 use tlp_write::words::{
@@ -28,265 +29,207 @@ use tlp_write::words::{
 
 #[derive(Clone, Copy)]
 pub struct KindHead {
-    pub fits: bool,
     pub packet_type: PacketType,
     pub routing: u8,
-    pub fault: u32,
+    pub fault: Result<(), Refusal>,
     pub words: Words,
 }
 
-fn request_in(record: &[u8]) -> Request
-    requires { length «record».now ≡ record_size }
+#[tactic(auto, unfolding(tlp_record::specs::Record::request_in))]
+fn request_in(record: &[u8; RECORD_SIZE]) -> Request
     ensures { result ≡ request_in «record».now }
 {
     Request {
         requester: two(record, SOURCE_ID),
-        tag: one(record, TAG),
+        tag: record[TAG],
         length: four(record, LENGTH),
-        first: one(record, FIRST_ENABLES),
-        last: one(record, LAST_ENABLES),
+        first: record[FIRST_ENABLES],
+        last: record[LAST_ENABLES],
     }
 }
 
-fn config_in(record: &[u8]) -> ConfigRequest
-    requires { length «record».now ≡ record_size }
+#[tactic(auto, unfolding(tlp_record::specs::Record::config_in))]
+fn config_in(record: &[u8; RECORD_SIZE]) -> ConfigRequest
     ensures { result ≡ config_in «record».now }
 {
     ConfigRequest {
         request: request_in(record),
-        extended_register: one(record, EXTENDED_REGISTER),
-        register: one(record, REGISTER),
+        extended_register: record[EXTENDED_REGISTER],
+        register: record[REGISTER],
     }
 }
 
-fn message_in(record: &[u8]) -> MessageRequest
-    requires { length «record».now ≡ record_size }
+#[tactic(auto, unfolding(tlp_record::specs::Record::message_in))]
+fn message_in(record: &[u8; RECORD_SIZE]) -> MessageRequest
     ensures { result ≡ message_in «record».now }
 {
     MessageRequest {
         requester: two(record, SOURCE_ID),
-        tag: one(record, TAG),
-        code: one(record, MESSAGE_CODE),
+        tag: record[TAG],
+        code: record[MESSAGE_CODE],
         body: eight(record, MESSAGE_BYTES),
     }
 }
 
-fn completion_in(record: &[u8]) -> CompletionHeader
-    requires { length «record».now ≡ record_size }
+#[tactic(auto, unfolding(tlp_record::specs::Record::completion_in))]
+fn completion_in(record: &[u8; RECORD_SIZE]) -> CompletionHeader
     ensures { result ≡ completion_in «record».now }
 {
     CompletionHeader {
         completer: two(record, SOURCE_ID),
-        status: one(record, STATUS),
-        byte_count_modified: one(record, BYTE_COUNT_MODIFIED) == 1,
+        status: record[STATUS],
+        byte_count_modified: record[BYTE_COUNT_MODIFIED] == 1,
         byte_count: four(record, BYTE_COUNT),
-        tag: one(record, TAG),
-        lower_address: one(record, LOWER_ADDRESS),
+        tag: record[TAG],
+        lower_address: record[LOWER_ADDRESS],
     }
 }
 
-fn memory_type(n: u8, address: u64) -> PacketType
-    ensures { result ≡ memory_type n address }
+fn type_in(record: &[u8; RECORD_SIZE]) -> PacketType
+    ensures { result
+        ≡ type_numbered (byte «record».now kind_place) (word 8 «record».now route_value_place) }
 {
-    if n == 1 {
-        return memory_form(address, PacketType::MRd32, PacketType::MRd64);
-    }
-    memory_form(address, PacketType::MWr32, PacketType::MWr64)
-}
-
-fn memory_head(n: u8, record: &[u8]) -> KindHead
-    requires record_len { length «record».now ≡ record_size }
-    requires record_value { shared_fits «record».now ≡ true }
-    requires n_value { n ≡ byte «record».now kind_place }
-    requires n_nonzero { 0 < n }
-    requires n_bound { n ≤ 2 }
-    ensures { JudgedHead result «record».now }
-{
-    let q = request_in(record);
     let address = eight(record, ROUTE_VALUE);
-    KindHead {
-        fits: memory_fits(record),
-        packet_type: memory_type(n, address),
-        routing: 0,
-        fault: memory_fault(access_at(address, q)),
-        words: memory_words(address, q),
-    }
-}
-
-fn pick_type(b: bool, x: PacketType, y: PacketType) -> PacketType
-    ensures { result ≡ pick b x y }
-{
-    if b {
-        return x;
-    }
-    y
-}
-
-fn io_head(n: u8, record: &[u8]) -> KindHead
-    requires record_len { length «record».now ≡ record_size }
-    requires record_value { shared_fits «record».now ≡ true }
-    requires n_value { n ≡ byte «record».now kind_place }
-    requires lt_n { 2 < n }
-    requires n_bound { n ≤ 4 }
-    ensures { JudgedHead result «record».now }
-{
-    let q = request_in(record);
-    let address = eight(record, ROUTE_VALUE);
-    let fault = register_fault(
-        access_at(address, q),
-        one(record, TRAFFIC_CLASS),
-        one(record, ATTRIBUTES),
-        0,
-    );
-    KindHead {
-        fits: io_fits(record),
-        packet_type: pick_type(n == 3, PacketType::IORd, PacketType::IOWr),
-        routing: 0,
-        fault: fault,
-        words: io_words(address, q),
-    }
-}
-
-fn config_type(n: u8) -> PacketType
-    ensures { result ≡ config_type n }
-{
-    match n {
+    match record[KIND] {
+        1 => memory_form(address, PacketType::MRd32, PacketType::MRd64),
+        2 => memory_form(address, PacketType::MWr32, PacketType::MWr64),
+        3 => PacketType::IORd,
+        4 => PacketType::IOWr,
         5 => PacketType::CfgRd0,
         6 => PacketType::CfgWr0,
         7 => PacketType::CfgRd1,
-        _ => PacketType::CfgWr1,
+        8 => PacketType::CfgWr1,
+        9 => PacketType::Msg,
+        10 => PacketType::MsgD,
+        11 => PacketType::Cpl,
+        _ => PacketType::CplD,
     }
 }
 
-fn config_head(n: u8, record: &[u8]) -> KindHead
-    requires record_len { length «record».now ≡ record_size }
-    requires record_value { shared_fits «record».now ≡ true }
-    requires n_value { n ≡ byte «record».now kind_place }
-    requires lt_n { 4 < n }
-    requires n_bound { n ≤ 8 }
+fn memory_head(record: &[u8; RECORD_SIZE]) -> Option<KindHead>
+    requires { KindCase 1 2 «record».now }
     ensures { JudgedHead result «record».now }
 {
-    let q = config_in(record);
-    let own = q.request;
-    let fault = register_fault(
-        access_at(0, own),
-        one(record, TRAFFIC_CLASS),
-        one(record, ATTRIBUTES),
-        0,
-    );
-    KindHead {
-        fits: config_fits(record),
-        packet_type: config_type(n),
-        routing: 0,
-        fault: fault,
-        words: config_words(two(record, ROUTE_ID), q),
+    if !memory_fits(record) {
+        return None;
     }
+    let q = request_in(record);
+    let address = eight(record, ROUTE_VALUE);
+    Some(KindHead {
+        packet_type: type_in(record),
+        routing: 0,
+        fault: memory_fault(access_at(address, q)),
+        words: memory_words(address, q),
+    })
+}
+
+fn io_head(record: &[u8; RECORD_SIZE]) -> Option<KindHead>
+    requires { KindCase 3 4 «record».now }
+    ensures { JudgedHead result «record».now }
+{
+    if !io_fits(record) {
+        return None;
+    }
+    let q = request_in(record);
+    let address = eight(record, ROUTE_VALUE);
+    let access = access_at(address, q);
+    Some(KindHead {
+        packet_type: type_in(record),
+        routing: 0,
+        fault: register_fault(access, record[TRAFFIC_CLASS], record[ATTRIBUTES], 0),
+        words: io_words(address, q),
+    })
+}
+
+fn config_head(record: &[u8; RECORD_SIZE]) -> Option<KindHead>
+    requires { KindCase 5 8 «record».now }
+    ensures { JudgedHead result «record».now }
+{
+    if !config_fits(record) {
+        return None;
+    }
+    let q = config_in(record);
+    let access = access_at(0, q.request);
+    Some(KindHead {
+        packet_type: type_in(record),
+        routing: 0,
+        fault: register_fault(access, record[TRAFFIC_CLASS], record[ATTRIBUTES], 0),
+        words: config_words(two(record, ROUTE_ID), q),
+    })
 }
 
 // A message's routing, by the case of its route.
-fn case_routing(n: u8) -> u8
-    ensures { result ≡ case_routing n }
+fn case_routing(record: &[u8; RECORD_SIZE]) -> u8
+    ensures { result ≡ case_routing (byte «record».now route_place) }
 {
-    match n {
+    match record[ROUTE] {
         1 => 2,
         2 => 0,
-        3 => 3,
-        4 => 4,
-        5 => 5,
+        n @ 3..=5 => n,
         _ => 1,
     }
 }
 
-fn message_head(n: u8, record: &[u8]) -> KindHead
-    requires record_len { length «record».now ≡ record_size }
-    requires record_value { shared_fits «record».now ≡ true }
-    requires n_value { n ≡ byte «record».now kind_place }
-    requires lt_n { 8 < n }
-    requires n_bound { n ≤ 10 }
+fn message_head(record: &[u8; RECORD_SIZE]) -> Option<KindHead>
+    requires { KindCase 9 10 «record».now }
     ensures { JudgedHead result «record».now }
 {
-    KindHead {
-        fits: message_fits(n == 10, record),
-        packet_type: pick_type(n == 10, PacketType::MsgD, PacketType::Msg),
-        routing: case_routing(one(record, ROUTE)),
-        fault: 0,
+    if !message_fits(record[KIND] == 10, record) {
+        return None;
+    }
+    Some(KindHead {
+        packet_type: type_in(record),
+        routing: case_routing(record),
+        fault: Ok(()),
         words: message_words(message_in(record)),
-    }
+    })
 }
 
-fn completion_head(n: u8, record: &[u8]) -> KindHead
-    requires record_len { length «record».now ≡ record_size }
-    requires record_value { shared_fits «record».now ≡ true }
-    requires n_value { n ≡ byte «record».now kind_place }
-    requires lt_n { 10 < n }
-    requires n_bound { n ≤ 12 }
+fn completion_head(record: &[u8; RECORD_SIZE]) -> Option<KindHead>
+    requires { KindCase 11 12 «record».now }
     ensures { JudgedHead result «record».now }
 {
-    KindHead {
-        fits: completion_fits(n == 12, record),
-        packet_type: pick_type(n == 12, PacketType::CplD, PacketType::Cpl),
+    if !completion_fits(record[KIND] == 12, record) {
+        return None;
+    }
+    Some(KindHead {
+        packet_type: type_in(record),
         routing: 0,
-        fault: 0,
+        fault: Ok(()),
         words: completion_words(two(record, ROUTE_ID), completion_in(record)),
-    }
+    })
 }
 
-fn no_head() -> KindHead
-    ensures { result.fits ≡ false }
-{
-    KindHead {
-        fits: false,
-        packet_type: PacketType::Unlisted,
-        routing: 0,
-        fault: 0,
-        words: Words { second: 0, tail: 0 },
-    }
-}
-
-pub(crate) fn kind_head_in(record: &[u8]) -> KindHead
-    requires record_len { length «record».now ≡ record_size }
-    requires record_value { shared_fits «record».now ≡ true }
+// None where the record can't be written.
+pub(crate) fn kind_head_in(record: &[u8; RECORD_SIZE]) -> Option<KindHead>
+    requires { shared_fits «record».now ≡ true }
     ensures { JudgedHead result «record».now }
 {
-    let n = one(record, KIND);
-    if n == 0 {
-        return no_head();
+    match record[KIND] {
+        1..=2 => memory_head(record),
+        3..=4 => io_head(record),
+        5..=8 => config_head(record),
+        9..=10 => message_head(record),
+        11..=12 => completion_head(record),
+        _ => None,
     }
-    if n <= 2 {
-        return memory_head(n, record);
-    }
-    if 10 < n {
-        if n <= 12 {
-            return completion_head(n, record);
-        }
-        return no_head();
-    }
-    if n <= 4 {
-        return io_head(n, record);
-    }
-    if n <= 8 {
-        return config_head(n, record);
-    }
-    message_head(n, record)
 }
 
 // With what every kind has alike.
-pub(crate) fn head_in(k: KindHead, record: &[u8]) -> Head
-    requires record_len { length «record».now ≡ record_size }
-    requires kind_head { IsKindHead k «record».now }
+#[tactic(auto, unfolding(tlp_record::specs::Record::record_packet))]
+pub(crate) fn whole_head(k: KindHead, record: &[u8; RECORD_SIZE]) -> Head
+    requires { IsKindHead k «record».now }
     ensures { IsHead result (record_packet «record».now) }
 {
-    let t = k.packet_type;
-    let words = k.words;
     Head {
-        packet_type: t,
+        packet_type: k.packet_type,
         routing: k.routing,
         fault: k.fault,
-        words: words,
-        traffic_class: one(record, TRAFFIC_CLASS),
-        attributes: one(record, ATTRIBUTES),
-        poisoned: one(record, POISONED) == 1,
-        has_digest: one(record, DIGEST_PRESENT) == 1,
+        words: k.words,
+        traffic_class: record[TRAFFIC_CLASS],
+        attributes: record[ATTRIBUTES],
+        poisoned: record[POISONED] == 1,
+        has_digest: record[DIGEST_PRESENT] == 1,
         digest: four(record, DIGEST),
         length: four(record, LENGTH),
     }

@@ -8,43 +8,46 @@ mod shared;
 
 ghost use Rattle.std.specs.Prelude.{◌≡◌, length};
 ghost use Rattle.tlp_record_write.specs.RecordWrite.{record_answer, record_out};
+ghost use Rattle.tlp_record_write.specs.Inner.KindHead.{RecordHead};
 
-use crate::kind_head::{head_in, kind_head_in};
+use crate::kind_head::{kind_head_in, whole_head};
 use crate::shared::shared_fits;
+use tlp::refusal::Refusal;
 use tlp::settings::{Settings, settings_listed};
 use tlp_record::places::RECORD_SIZE;
-use tlp_write::{WriteAnswer, write_head};
+use tlp_write::head::Head;
+use tlp_write::write_head;
 
-fn refused(number: u32) -> WriteAnswer
-    ensures { result ≡ WriteAnswer.Refused number }
+// The head of the packet that a record describes; None where it can't be written.
+fn head_in(record: &[u8]) -> Option<Head>
+    ensures { RecordHead result «record».now }
 {
-    WriteAnswer::Refused(number)
+    let record = record.as_array::<RECORD_SIZE>()?;
+    if !shared_fits(record) {
+        return None;
+    }
+    let kind = kind_head_in(record)?;
+    Some(whole_head(kind, record))
 }
 
-// The packet over the front of the output, or the first number that is given, with the output as it was.
+// The packet over the front of the output, or the first refusal that is given, with the output as it was. The size is
+// answered.
 pub fn write_record(
     settings: Settings,
     record: &[u8],
     payload: &[u8],
     out: &mut [u8],
-) -> WriteAnswer
+) -> Result<usize, Refusal>
     ensures value { result
         ≡ record_answer settings «record».now (length payload.now) (length out.old) }
     ensures out_after { out.new
         ≡ record_out settings «record».now payload.now out.old }
 {
     if !settings_listed(settings) {
-        return refused(11);
+        return Err(Refusal::BadSetting);
     }
-    if record.len() != RECORD_SIZE {
-        return refused(6);
-    }
-    if !shared_fits(record) {
-        return refused(6);
-    }
-    let kind = kind_head_in(record);
-    if !kind.fits {
-        return refused(6);
-    }
-    write_head(settings.mps, head_in(kind, record), payload, out)
+    let Some(head) = head_in(record) else {
+        return Err(Refusal::BadField);
+    };
+    write_head(settings.mps, head, payload, out)
 }

@@ -1,32 +1,27 @@
-// Numbers at places of a record, the high byte first. Nothing is looked up past the end, so no place is tested.
-ghost use Rattle.std.specs.Prelude.{◌≡◌, ◌+◌, ◌≤◌, ◌<◌, length};
-ghost use Rattle.bits.specs.Word.{byte, word};
+// Numbers at places of a record, the high byte first. Each is two of half its size, which a compiler makes one load.
+ghost use Rattle.std.specs.Prelude.{◌≡◌, ◌+◌, ◌≤◌};
+ghost use Rattle.bits.specs.Word.{word};
+ghost use Rattle.tlp_record.specs.Places.{record_size};
 
 use bits::word::{join16, join32, join64};
+use tlp_record::places::RECORD_SIZE;
 
-pub(crate) fn one(record: &[u8], i: usize) -> u8
-    requires { i < length «record».now }
-    ensures { result ≡ byte «record».now i }
-{
-    record[i]
-}
-
-pub(crate) fn two(record: &[u8], i: usize) -> u16
-    requires { i + 2 ≤ length «record».now }
+pub(crate) fn two(record: &[u8; RECORD_SIZE], i: usize) -> u16
+    requires { i + 2 ≤ record_size }
     ensures { result ≡ word 2 «record».now i }
 {
-    join16(one(record, i), one(record, i + 1))
+    join16(record[i], record[i + 1])
 }
 
-pub(crate) fn four(record: &[u8], i: usize) -> u32
-    requires { i + 4 ≤ length «record».now }
+pub(crate) fn four(record: &[u8; RECORD_SIZE], i: usize) -> u32
+    requires { i + 4 ≤ record_size }
     ensures { result ≡ word 4 «record».now i }
 {
     join32(two(record, i), two(record, i + 2))
 }
 
-pub(crate) fn eight(record: &[u8], i: usize) -> u64
-    requires { i + 8 ≤ length «record».now }
+pub(crate) fn eight(record: &[u8; RECORD_SIZE], i: usize) -> u64
+    requires { i + 8 ≤ record_size }
     ensures { result ≡ word 8 «record».now i }
 {
     join64(four(record, i), four(record, i + 4))

@@ -43,9 +43,6 @@ first-le Cpl = lit≤ tt
 first-le CplD = lit≤ tt
 first-le Unlisted = lit≤ tt
 
-pub routing-law : (t : Route) (k v : Kind) (n : ℕ) → k ≡ v → n ≡ routing_in t v → n ≡ routing_in t k
-routing-law t k v n e q = rw e q
-
 message-low : (r : Route) → low (routing r) 3 ≡ routing r
 message-low (Address a) = refl
 message-low (Id i) = refl

@@ -9,12 +9,12 @@ use Rattle.bits.specs.Word.{bytes}
 use Rattle.bits.specs.Put.{put}
 use Rattle.bits.proofs.PutLaws.{put-nothing}
 
-module _ (b : Bool) (d at : ℕ) (out : List ℕ) where
-  pub digest-room : b ≡ true → at + length (pick b (bytes 4 d) []) ≤ length out → at + 4 ≤ length out
-  digest-room h l = rw h at l
+module _ (b : Bool) (d at : ℕ) (v out : List ℕ) (k : v ≡ bytes 4 d) where
+  pub digest-room : b ≡ true → at + length (pick b (bytes 4 d) []) ≤ length out → at + length v ≤ length out
+  digest-room h l = rw k (rw h at l)
 
-  pub digest-put : (o : List ℕ) → b ≡ true → o ≡ put at (bytes 4 d) out → o ≡ put at (pick b (bytes 4 d) []) out
-  digest-put o h e = rw h e
+  pub digest-put : (o : List ℕ) → b ≡ true → o ≡ put at v out → o ≡ put at (pick b (bytes 4 d) []) out
+  digest-put o h e = rw (h, ← k) e
 
-  pub digest-none : b ≡ false → out ≡ put at (pick b (bytes 4 d) []) out
-  digest-none h = rw h (put-nothing at out)
+pub digest-none : (b : Bool) (d at : ℕ) (out : List ℕ) → b ≡ false → out ≡ put at (pick b (bytes 4 d) []) out
+digest-none b d at out h = rw h (put-nothing at out)

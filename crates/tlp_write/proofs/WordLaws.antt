@@ -1,5 +1,5 @@
 -- Laws of a header in words, in the words of the returns.
-use Prim.Native.Nat.{ℕ, ◌+◌, ◌*◌, ◌/◌, ◌%◌, ◌^◌, ◌≤◌, ◌<◌}
+use Prim.Native.Nat.{ℕ, ◌+◌, ◌*◌, ◌/◌, ◌%◌, ◌^◌, ◌≤◌}
 use mathlib.Core.Path.{◌≡◌, refl, sym, ap, ◌∙◌}
 use mathlib.Core.Bool.{Bool, true, false}
 use mathlib.Core.List.{List, [], ◌∷◌, ◌++◌}
@@ -8,7 +8,6 @@ use native.Mathlib.Omega.{arith}
 use lib.ListN.{length, take}
 use mir.Val.{Fits}
 use mir.Syntax.{w8, w32}
-use borrow.Author.Tests.{lt-ltb, le-ltb}
 use Rattle.bits.specs.Choice.{pick, flag}
 use Rattle.bits.specs.Word.{bytes}
 use Rattle.bits.specs.Put.{put}
@@ -19,14 +18,9 @@ use Rattle.tlp.specs.declared.packet.Request.{Request}
 use Rattle.tlp.specs.declared.packet.ConfigRequest.{ConfigRequest}
 use Rattle.tlp.specs.declared.packet.MessageRequest.{MessageRequest}
 use Rattle.tlp.specs.declared.packet.CompletionHeader.{CompletionHeader}
-use Rattle.tlp.specs.declared.packet.Route.{Route}
-use Rattle.tlp.specs.declared.packet.Kind.{Kind}
-use Rattle.tlp.specs.declared.packet.Kind.TheVariants.{MemoryRead, MemoryWrite, IoRead, IoWrite, ConfigRead0, ConfigWrite0, ConfigRead1, ConfigWrite1, Message, MessageData, Completion, CompletionData}
-use Rattle.tlp.specs.Packets.{address_of, id_of}
-use Rattle.tlp_write.specs.Layout.{request_bytes, memory_address, config_bytes, message_bytes, completion_bytes, own_bytes}
+use Rattle.tlp_write.specs.Layout.{request_bytes, config_bytes, message_bytes, completion_bytes}
 use Rattle.tlp_write.specs.Inner.Padded.{padded}
-use Rattle.tlp_write.specs.Inner.Head.{word_bytes, head_front}
-use Rattle.tlp_write.specs.declared.words.Words.{Words}
+use Rattle.tlp_write.specs.Inner.Head.{head_front}
 use Rattle.tlp_write.specs.declared.head.Head.{Head}
 
 -- ---- bytes of joined numbers
@@ -49,17 +43,6 @@ pub high-law : (a : ℕ) → bytes 8 (a % 2 ^ 32 * 2 ^ 32) ≡ padded 8 (bytes 4
 high-law a =
     let e : bytes 8 (a % 2 ^ 32 * 2 ^ 32 + 0) ≡ bytes 4 (a % 2 ^ 32) ++ bytes 4 0 = bytes-join 4 4 (a % 2 ^ 32) 0 (zero-lt-suc _) in
     ap (λ (n : ℕ). bytes 8 n) (sym (add-zero (a % 2 ^ 32 * 2 ^ 32))) ∙ e ∙ ap (λ (l : List ℕ). l ++ bytes 4 0) (bytes_low 4 a)
-
--- ---- addresses
-
-module _ (a w : ℕ) where
-  pub memory-narrow : a < 2 ^ 32 → bytes 8 w ≡ padded 8 (bytes 4 a) → bytes 8 w ≡ padded 8 (memory_address a)
-  unfolding memory_address
-  memory-narrow h e = rw (lt-ltb a (2 ^ 32) h) e
-
-pub memory-wide : (a : ℕ) → 2 ^ 32 ≤ a → bytes 8 a ≡ padded 8 (memory_address a)
-unfolding memory_address
-memory-wide a h = rw (le-ltb a (2 ^ 32) h)
 
 -- ---- the kinds
 
@@ -88,45 +71,6 @@ module _ (v t : ℕ) where
       let third : List ℕ = bytes 2 requester ++ (c.tag ∷ (c.lower_address % 128) ∷ []) in
       append-same _ _ _ (padded 8 third) (rw g at e) (h ∙ ap (λ (l : List ℕ). padded 8 l) k)
 
--- by the address and the ID that the route has
-abbrev pub field_own : ℕ → ℕ → Kind → List ℕ
-field_own a i (MemoryRead q) = request_bytes q ++ memory_address a
-field_own a i (MemoryWrite q) = request_bytes q ++ memory_address a
-field_own a i (IoRead q) = request_bytes q ++ bytes 4 a
-field_own a i (IoWrite q) = request_bytes q ++ bytes 4 a
-field_own a i (ConfigRead0 q) = config_bytes i q
-field_own a i (ConfigWrite0 q) = config_bytes i q
-field_own a i (ConfigRead1 q) = config_bytes i q
-field_own a i (ConfigWrite1 q) = config_bytes i q
-field_own a i (Message m) = message_bytes m
-field_own a i (MessageData m n) = message_bytes m
-field_own a i (Completion c) = completion_bytes i c
-field_own a i (CompletionData c n) = completion_bytes i c
-
-own_at : (r : Route) (k : Kind) → field_own (address_of r) (id_of r) k ≡ own_bytes r k
-unfolding own_bytes
-own_at r (MemoryRead q) = refl
-own_at r (MemoryWrite q) = refl
-own_at r (IoRead q) = refl
-own_at r (IoWrite q) = refl
-own_at r (ConfigRead0 q) = refl
-own_at r (ConfigWrite0 q) = refl
-own_at r (ConfigRead1 q) = refl
-own_at r (ConfigWrite1 q) = refl
-own_at r (Message m) = refl
-own_at r (MessageData m n) = refl
-own_at r (Completion c) = refl
-own_at r (CompletionData c n) = refl
-
-pub own-law : (r : Route) (k v : Kind) (a i : ℕ) (w : Words) → k ≡ v → a ≡ address_of r → i ≡ id_of r
-    → word_bytes w ≡ padded 12 (field_own a i v) → word_bytes w ≡ padded 12 (own_bytes r k)
-own-law r k v a i w e ea ei q =
-    q
-    ∙ ap (λ (x : ℕ). padded 12 (field_own x i v)) ea
-    ∙ ap (λ (x : ℕ). padded 12 (field_own (address_of r) x v)) ei
-    ∙ ap (λ (x : List ℕ). padded 12 x) (own_at r v)
-    ∙ ap (λ (x : Kind). padded 12 (own_bytes r x)) (sym e)
-
 -- ---- bytes 0 to 3
 
 pub front-law : (h : Head) (v b f g : ℕ) → b ≡ first_byte h.packet_type → f ≡ flag h.has_digest → g ≡ flag h.poisoned
@@ -141,47 +85,46 @@ front-law h v b f g eb ef eg e = rw (eb, ef, eg) at e
 
 -- ---- over the output
 
-module _ (b c : Bool) (e : b ≡ c) where
-  pub size-wide : b ≡ true → ◌≡◌ {A = ℕ} 16 (pick c 16 12)
-  size-wide h = rw (← e, h)
+module _ (wide : Bool) (r t : ℕ) (w : List ℕ) (e : r ≡ 8 + length w) where
+  pub wide-end : wide ≡ true → w ≡ bytes 8 t → r ≡ pick wide 16 12
+  wide-end h k = rw (h, e, k)
 
-  pub size-narrow : b ≡ false → ◌≡◌ {A = ℕ} 12 (pick c 16 12)
-  size-narrow h = rw (← e, h)
+  pub narrow-end : wide ≡ false → w ≡ bytes 4 t → r ≡ pick wide 16 12
+  narrow-end h k = rw (h, e, k)
 
-pub laid-law : (at : ℕ) (w v out o : List ℕ) → w ≡ v → o ≡ put at w out → o ≡ put at v out
-laid-law at w v out o e k = rw e at k
-
-module _ (wide : Bool) (out : List ℕ) (l : pick wide 16 12 ≤ length out) where
-  pub first-room : 0 + 8 ≤ length out
-  first-room = by wide l
+-- v is the first two words, x as one number
+module _ (wide : Bool) (out o1 v : List ℕ) (x : ℕ) (l : pick wide 16 12 ≤ length out) (b : v ≡ bytes 8 x) where
+  pub first-room : 0 + length v ≤ length out
+  first-room = rw b (by wide l)
     where
-      by : (b : Bool) → pick b 16 12 ≤ length out → 0 + 8 ≤ length out
+      by : (b : Bool) → pick b 16 12 ≤ length out → 8 ≤ length out
       by true k = omega (arith, k)
       by false k = omega (arith, k)
 
-  module _ (o1 : List ℕ) (x : ℕ) (e : o1 ≡ put 0 (bytes 8 x) out) where
+  module _ (e : o1 ≡ put 0 v out) (w : List ℕ) (y : ℕ) where
     same-room : length o1 ≡ length out
-    same-room = ap length e ∙ length-put 0 (bytes 8 x) out first-room
+    same-room = ap length e ∙ length-put 0 v out first-room
 
-    pub second-wide : wide ≡ true → 8 + 8 ≤ length o1
-    second-wide h = omega (arith, same-room, rw h at l)
+    pub second-wide : wide ≡ true → w ≡ bytes 8 y → 8 + length w ≤ length o1
+    second-wide h k = rw k (omega (arith, same-room, rw h at l))
 
-    pub second-narrow : wide ≡ false → 8 + 4 ≤ length o1
-    second-narrow h = omega (arith, same-room, rw h at l)
+    pub second-narrow : wide ≡ false → w ≡ bytes 4 y → 8 + length w ≤ length o1
+    second-narrow h k = rw k (omega (arith, same-room, rw h at l))
 
-module _ (f s t x : ℕ) (wide : Bool) (out o1 o2 : List ℕ) (hs : Fits w32 s) (ex : x ≡ f * 2 ^ 32 + s) (e1 : o1 ≡ put 0 (bytes 8 x) out) where
-  two-words : bytes 8 x ≡ bytes 4 f ++ bytes 4 s
-  two-words = rw ex (bytes-join 4 4 f s hs.fits)
+module _ (f s t x : ℕ) (wide : Bool) (out o1 o2 v w : List ℕ) (hs : Fits w32 s) (ex : x ≡ f * 2 ^ 32 + s) (b : v ≡ bytes 8 x)
+    (e1 : o1 ≡ put 0 v out) (e2 : o2 ≡ put 8 w o1) where
+  two-words : v ≡ bytes 4 f ++ bytes 4 s
+  two-words = b ∙ rw ex (bytes-join 4 4 f s hs.fits)
 
-  then-put : (xs : List ℕ) → o2 ≡ put 8 xs o1 → o2 ≡ put 0 ((bytes 4 f ++ bytes 4 s) ++ xs) out
-  then-put xs e = e ∙ rw (e1, two-words) (put_next (bytes 4 f ++ bytes 4 s) xs out)
+  then-put : (xs : List ℕ) → w ≡ xs → o2 ≡ put 0 ((bytes 4 f ++ bytes 4 s) ++ xs) out
+  then-put xs k = e2 ∙ rw (e1, two-words, k) (put_next (bytes 4 f ++ bytes 4 s) xs out)
 
-  pub wide-put : wide ≡ true → o2 ≡ put 8 (bytes 8 t) o1 → o2 ≡ put 0 (take (pick wide 16 12) (bytes 4 f ++ (bytes 4 s ++ bytes 8 t))) out
-  wide-put h e = rw h (then-put (bytes 8 t) e)
+  pub wide-put : wide ≡ true → w ≡ bytes 8 t → o2 ≡ put 0 (take (pick wide 16 12) (bytes 4 f ++ (bytes 4 s ++ bytes 8 t))) out
+  wide-put h k = rw h (then-put (bytes 8 t) k)
 
-  pub narrow-put : wide ≡ false → o2 ≡ put 8 (bytes 4 (t / 2 ^ 32)) o1
+  pub narrow-put : wide ≡ false → w ≡ bytes 4 (t / 2 ^ 32)
       → o2 ≡ put 0 (take (pick wide 16 12) (bytes 4 f ++ (bytes 4 s ++ bytes 8 t))) out
-  narrow-put h e =
+  narrow-put h k =
       let d : t / 2 ^ 32 * 2 ^ 32 + t % 2 ^ 32 ≡ t = div-add-mod' t (2 ^ 32) in
       let j : bytes 8 t ≡ bytes 4 (t / 2 ^ 32) ++ bytes 4 (t % 2 ^ 32) = ap (λ (n : ℕ). bytes 8 n) (sym d) ∙ bytes-join 4 4 (t / 2 ^ 32) (t % 2 ^ 32) (mod-lt t (zero-lt-suc _)) in
-      rw h (then-put (bytes 4 (t / 2 ^ 32)) e ∙ ap (λ (l : List ℕ). put 0 (take 12 (bytes 4 f ++ (bytes 4 s ++ l))) out) (sym j))
+      rw h (then-put (bytes 4 (t / 2 ^ 32)) k ∙ ap (λ (l : List ℕ). put 0 (take 12 (bytes 4 f ++ (bytes 4 s ++ l))) out) (sym j))

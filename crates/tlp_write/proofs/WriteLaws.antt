@@ -1,23 +1,24 @@
 -- Laws of writing, in the words of its returns.
-use Prim.Native.Nat.{ℕ, zero, suc, ◌+◌, ◌*◌, ◌^◌, ◌≤◌, ◌<◌}
+use Prim.Native.Nat.{ℕ, zero, suc, ◌+◌, ◌*◌, ◌≤◌}
 use mathlib.Core.Path.{◌≡◌, refl, sym, ap, ◌∙◌}
 use mathlib.Core.Bool.{Bool, true, false, not}
 use mathlib.Core.List.{List, [], ◌++◌, append_assoc}
 use native.Mathlib.Omega.{arith}
 use lib.Dec.{eqb, ltb}
 use lib.ListN.{length, take, length-append}
-use mir.Val.{Fits}
-use mir.Syntax.{w32}
-use borrow.Author.Tests.{eqb-true, ltb-false, lt-ltb, le-ltb, not-false, ne_eqb}
+use borrow.Author.Tests.{eqb-true, ltb-false, not-false, ne_eqb}
 use Rattle.bits.specs.Choice.{pick}
 use Rattle.bits.specs.Word.{bytes}
 use Rattle.bits.specs.Put.{put, over_front}
 use Rattle.bits.proofs.PutLaws.{length-put, put_front, put_next}
 use Rattle.byte_enables.specs.declared.Access.{Access}
 use Rattle.tlp.specs.Rows.{first}
+use Rattle.tlp.specs.Refusals.{refusal, answered, checked, number_in}
+use Rattle.tlp.specs.declared.refusal.Refusal.{Refusal}
 use Rattle.tlp.proofs.RowLaws.{some_of, none_of}
+use Rattle.tlp.proofs.RefusalLaws.{number-answered}
+use Rattle.std.specs.Prelude.{Result, Ok, Err}
 use Rattle.tlp.specs.PacketTypes.{header_dw, family_of}
-use Rattle.tlp.proofs.Bounds.{data-le}
 use Rattle.tlp.specs.Packets.{type_of, access_of}
 use Rattle.tlp.specs.Sizes.{data_bytes, digest_bytes}
 use Rattle.tlp.specs.Contents.{plain_bad, enables_bad, page_bad, fault_rows}
@@ -25,27 +26,14 @@ use Rattle.tlp.specs.declared.settings.Settings.{Settings}
 use Rattle.tlp.specs.declared.packet.Packet.{Packet}
 use Rattle.tlp.specs.declared.packet_type.PacketType.{PacketType}
 use Rattle.tlp.specs.declared.packet_type.Family.{Family}
-use Rattle.tlp_write.specs.declared.WriteAnswer.{WriteAnswer}
-use Rattle.tlp_write.specs.declared.WriteAnswer.TheVariants.{Written, Refused}
 use Rattle.tlp_write.specs.declared.words.Words.{Words}
 use Rattle.tlp_write.specs.declared.head.Head.{Head}
 use Rattle.tlp_write.specs.Layout.{routing_in, own_bytes, front_bytes, header_of, digest_of, bytes_of, size_of}
-use Rattle.tlp_write.specs.Write.{field_rows, later_rows, write_answer, write_packet, write_out}
+use Rattle.tlp_write.specs.Write.{field_rows, later_rows, write_packet, write_out}
 use Rattle.tlp_write.specs.Inner.Padded.{padded}
 use Rattle.tlp_write.specs.Inner.Head.{word_bytes, head_front, head_size, head_bytes, head_digest, data_size, whole_size, listed_fault, judged_rows, judged_answer, judged_out, head_answer, head_out, IsHead}
 use Rattle.tlp_write.specs.Inner.Lay.{lay_answer, lay_out}
 use Rattle.tlp_write.proofs.LayoutLaws.{routing-low, header-length, header-front, three-or-four}
-
--- ---- sizes
-
-pub wide-law : (t : PacketType) (n : ℕ) → n ≡ header_dw t → eqb n 4 ≡ eqb (header_dw t) 4
-wide-law t n e = rw e
-
-pub held-le : (t : PacketType) (d n : ℕ) → d ≡ data_bytes t n → Fits w32 n → d < 2 ^ 34
-held-le t d n e h = omega (arith, e, data-le t n, h.fits)
-
-pub whole-law : (h : Head) (d n : ℕ) → d ≡ data_size h → n ≡ pick (eqb (header_dw h.packet_type) 4) 16 12 + d + digest_bytes h.has_digest → n ≡ whole_size h
-whole-law h d n e k = rw e at k
 
 -- ---- the packet over the output
 
@@ -117,9 +105,18 @@ module _ (h : Head) (payload : List ℕ) where
 
 -- ---- answers
 
-answer-refused : (n size : ℕ) → (n ≡ 0 → ⊥) → Refused n ≡ write_answer n size
-answer-refused zero size z = absurd (z refl)
-answer-refused (suc n) size z = refl
+-- an answer to a number is a refusal where it is not 0, whatever the value is
+ok_number : {A : Type 0} (x y : A) (n : ℕ) → Ok x ≡ answered n y → n ≡ 0
+ok_number x y zero e = refl
+ok_number x y (suc n) e = absurd (cc)
+
+err_number : {A : Type 0} (r : Refusal) (y : A) (n : ℕ) → Err r ≡ answered n y → n ≡ 0 → ⊥
+err_number r y zero e z = cc
+err_number r y (suc n) e z = omega (arith, z)
+
+err_answer : {A B : Type 0} (r : Refusal) (x : A) (y : B) (n : ℕ) → Err r ≡ answered n x → Err r ≡ answered n y
+err_answer r x y zero e = absurd (cc)
+err_answer r x y (suc n) e = ap Err (cc)
 
 -- 3 and 12 are not the case where no number is given
 three-and-twelve : (x y z : Bool) (f : ℕ) → pick x 3 (pick y 5 (pick (not (eqb f 0)) f (pick z 12 0))) ≡ 0 → (x ≡ false) × (z ≡ false)
@@ -129,50 +126,36 @@ three-and-twelve false false true zero e = absurd (omega (arith, e))
 three-and-twelve false false false zero e = (refl, refl)
 three-and-twelve false false z (suc f) e = absurd (omega (arith, rw (ne_eqb (suc f) 0 (λ q. omega arith)) at e))
 
-module _ (mps : ℕ) (h : Head) (fault : ℕ) (payload out : List ℕ) (n : ℕ) (e : n ≡ first (judged_rows mps h fault (length payload) (length out))) where
-  pub refused : (n ≡ 0 → ⊥) → Refused n ≡ judged_answer mps h fault (length payload) (length out)
-  unfolding judged_answer
-  refused z = rw (← e) (answer-refused n (whole_size h) z)
-
-  pub refused-out : (n ≡ 0 → ⊥) → out ≡ judged_out mps h fault payload out
+module _ (mps : ℕ) (h : Head) (fault : Result Unit Refusal) (payload out : List ℕ) where
+  pub refused-out : (r : Refusal) → Err r ≡ judged_answer mps h fault (length payload) (length out) → out ≡ judged_out mps h fault payload out
   unfolding judged_out
-  refused-out z = rw (← (refused z))
+  refused-out r e = rw (← e)
 
-  pub written : (size : ℕ) → n ≡ 0 → size ≡ whole_size h → Written size ≡ judged_answer mps h fault (length payload) (length out)
-  unfolding judged_answer
-  written size z k = rw (← e, z, k)
+  module _ (size : ℕ) (e : Ok size ≡ judged_answer mps h fault (length payload) (length out)) where
+    pub written_out : (last : List ℕ) → last ≡ over_front (head_bytes h ++ (payload ++ head_digest h)) out → last ≡ judged_out mps h fault payload out
+    unfolding judged_out
+    written_out last k = rw (← e) k
 
-  pub written_out : (last : List ℕ) → n ≡ 0 → last ≡ over_front (head_bytes h ++ (payload ++ head_digest h)) out → last ≡ judged_out mps h fault payload out
-  unfolding judged_out
-  written_out last z k = rw (← (written (whole_size h) z refl)) k
-
-  pub written-room : n ≡ 0 → length (head_bytes h ++ (payload ++ head_digest h)) ≤ length out
-  unfolding first
-  written-room z =
-      let (d, r) = three-and-twelve (not (eqb (length payload) (data_size h))) (ltb mps (data_size h)) (ltb (length out) (whole_size h)) fault (sym e ∙ z) in
-      let m = eqb-true (length payload) (data_size h) (not-false (eqb (length payload) (data_size h)) d) in
-      omega (arith, m, ltb-false (length out) (whole_size h) r, whole_length h payload)
+    pub written-room : length (head_bytes h ++ (payload ++ head_digest h)) ≤ length out
+    unfolding first judged_answer
+    written-room =
+        let z = ok_number size (whole_size h) (first (judged_rows mps h fault (length payload) (length out))) e in
+        let (d, r) = three-and-twelve (not (eqb (length payload) (data_size h))) (ltb mps (data_size h)) (ltb (length out) (whole_size h)) (number_in fault) z in
+        let m = eqb-true (length payload) (data_size h) (not-false (eqb (length payload) (data_size h)) d) in
+        omega (arith, m, ltb-false (length out) (whole_size h) r, whole_length h payload)
 
 -- ---- any head
 
-pub fault-below : (n : ℕ) → n < 6 → 0 ≡ listed_fault n
-fault-below n h = rw (lt-ltb n 6 h)
-
-pub fault-above : (n : ℕ) → 6 ≤ n → 8 < n → 0 ≡ listed_fault n
-fault-above n l h = rw (le-ltb n 6 l, lt-ltb 8 n h)
-
-pub fault-listed : (n : ℕ) → 6 ≤ n → n ≤ 8 → n ≡ listed_fault n
-fault-listed n l h = rw (le-ltb n 6 l, le-ltb 8 n h)
-
--- the rows 6 to 8 have such a number
-fault-kept : (a b c : Bool) → pick a 6 (pick b 7 (pick c 8 0)) ≡ listed_fault (pick a 6 (pick b 7 (pick c 8 0)))
+-- the rows 6 to 8 give such a fault
+fault-kept : (a b c : Bool) → checked (pick a 6 (pick b 7 (pick c 8 0))) ≡ listed_fault (checked (pick a 6 (pick b 7 (pick c 8 0))))
+unfolding refusal
 fault-kept true b c = refl
 fault-kept false true c = refl
 fault-kept false false true = refl
 fault-kept false false false = refl
 
-module _ (mps : ℕ) (h : Head) (fault : ℕ) (e : fault ≡ listed_fault h.fault) where
-  pub told-answer : (n room : ℕ) (x : WriteAnswer) → x ≡ judged_answer mps h fault n room → x ≡ head_answer mps h n room
+module _ (mps : ℕ) (h : Head) (fault : Result Unit Refusal) (e : fault ≡ listed_fault h.fault) where
+  pub told-answer : (n room : ℕ) (x : Result ℕ Refusal) → x ≡ judged_answer mps h fault n room → x ≡ head_answer mps h n room
   unfolding head_answer
   told-answer n room x q = rw e at q
 
@@ -189,8 +172,8 @@ fault-first false true c m = refl
 fault-first false false true m = refl
 fault-first false false false m = refl
 
-pub head-law : (p : Packet) (t : PacketType) (a : Access) (f : Family) (r m : ℕ) (w : Words) → t ≡ type_of p → a ≡ access_of p → f ≡ family_of t
-    → r ≡ routing_in p.route p.kind → m ≡ first (fault_rows f a p.traffic_class p.attributes 0)
+pub head-law : (p : Packet) (t : PacketType) (a : Access) (f : Family) (r : ℕ) (m : Result Unit Refusal) (w : Words) → t ≡ type_of p → a ≡ access_of p → f ≡ family_of t
+    → r ≡ routing_in p.route p.kind → m ≡ checked (first (fault_rows f a p.traffic_class p.attributes 0))
     → word_bytes w ≡ padded 12 (own_bytes p.route p.kind)
     → IsHead (record {
       packet_type = t;
@@ -254,60 +237,67 @@ module _ (h : Head) (p : Packet) (i : IsHead h p) where
       let a = access_of p in
       rw i.fault_is (fault-kept (plain_bad f a p.traffic_class p.attributes 0) (enables_bad f a) (page_bad f a))
 
+  fault-number : number_in h.fault ≡ first (fault_rows (family_of (type_of p)) (access_of p) p.traffic_class p.attributes 0)
+  unfolding refusal
+  fault-number = ap number_in i.fault_is ∙ number-answered tt (fault_rows (family_of (type_of p)) (access_of p) p.traffic_class p.attributes 0) refl
+
   rows_same : (c : Settings) (n room : ℕ) → first (judged_rows c.mps h h.fault n room) ≡ first (later_rows c p n room)
   unfolding first
   rows_same c n room =
       let f = family_of (type_of p) in
       let a = access_of p in
       let d = data_bytes (type_of p) a.length in
-      ap (λ (x : ℕ). numbers_first c.mps n room x h.fault (whole_size h)) data-same
-      ∙ ap (λ (x : ℕ). numbers_first c.mps n room d x (whole_size h)) i.fault_is
+      ap (λ (x : ℕ). numbers_first c.mps n room x (number_in h.fault) (whole_size h)) data-same
+      ∙ ap (λ (x : ℕ). numbers_first c.mps n room d x (whole_size h)) fault-number
       ∙ ap (λ (x : ℕ). numbers_first c.mps n room d (first (fault_rows f a p.traffic_class p.attributes 0)) x) whole_same
       ∙ ap (λ (m : ℕ). pick (not (eqb n d)) 3 (pick (ltb c.mps d) 5 m))
       (fault-first (plain_bad f a p.traffic_class p.attributes 0) (enables_bad f a) (page_bad f a) (pick (ltb room (size_of p)) 12 0))
 
   -- without a fault it is laid as it is
-  lay-same : (mps n room : ℕ) → judged_answer mps h 0 n room ≡ lay_answer mps p n room
+  lay-same : (mps n room : ℕ) → judged_answer mps h (Ok tt) n room ≡ lay_answer mps p n room
   unfolding judged_answer lay_answer first
   lay-same mps n room = rw (whole_same, data-same)
 
-  pub lay-answer : (mps n room : ℕ) (x : WriteAnswer) → x ≡ judged_answer mps h 0 n room → x ≡ lay_answer mps p n room
+  pub lay-answer : (mps n room : ℕ) (x : Result ℕ Refusal) → x ≡ judged_answer mps h (Ok tt) n room → x ≡ lay_answer mps p n room
   lay-answer mps n room x q = q ∙ lay-same mps n room
 
-  pub lay-out : (mps : ℕ) (payload out last : List ℕ) → last ≡ judged_out mps h 0 payload out → last ≡ lay_out mps p payload out
+  pub lay-out : (mps : ℕ) (payload out last : List ℕ) → last ≡ judged_out mps h (Ok tt) payload out → last ≡ lay_out mps p payload out
   unfolding judged_out lay_out bytes_of
   lay-out mps payload out last q = q ∙ rw (lay-same mps (length payload) (length out), bytes_same, digest-same)
 
   -- where no row of the settings or the fields holds, what is answered and written of the head is the packet's
-  module _ (c : Settings) (m : ℕ) (e : m ≡ first (field_rows c p)) (z : m ≡ 0) where
+  module _ (c : Settings) (e : Ok tt ≡ checked (first (field_rows c p))) where
     answer-same : (n room : ℕ) → judged_answer c.mps h h.fault n room ≡ write_packet c p n room
     unfolding judged_answer write_packet
     answer-same n room =
+        let z = ok_number tt tt (first (field_rows c p)) e in
         rw (rows_same c n room, whole_same)
-        (ap (λ (k : ℕ). write_answer k (size_of p)) (none_of (field_rows c p) (later_rows c p n room) m (first (later_rows c p n room)) refl e z refl))
+        (ap (λ (k : ℕ). answered k (size_of p)) (none_of (field_rows c p) (later_rows c p n room) (first (field_rows c p)) (first (later_rows c p n room)) refl refl z refl))
 
-    pub write-answer : (n room : ℕ) (x : WriteAnswer) → x ≡ judged_answer c.mps h h.fault n room → x ≡ write_packet c p n room
+    pub write-answer : (n room : ℕ) (x : Result ℕ Refusal) → x ≡ judged_answer c.mps h h.fault n room → x ≡ write_packet c p n room
     write-answer n room x q = q ∙ answer-same n room
 
     pub write-out : (payload out last : List ℕ) → last ≡ judged_out c.mps h h.fault payload out → last ≡ write_out c p payload out
     unfolding judged_out write_out bytes_of
     write-out payload out last q = q ∙ rw (answer-same (length payload) (length out), bytes_same, digest-same)
 
-    pub head-answer : (n room : ℕ) (x : WriteAnswer) → x ≡ head_answer c.mps h n room → x ≡ write_packet c p n room
+    pub head-answer : (n room : ℕ) (x : Result ℕ Refusal) → x ≡ head_answer c.mps h n room → x ≡ write_packet c p n room
     unfolding head_answer
     head-answer n room x q = rw (← fault-same) at q ∙ answer-same n room
 
     pub head-out : (payload out last : List ℕ) → last ≡ head_out c.mps h payload out → last ≡ write_out c p payload out
     unfolding head_out
-    head-out payload out last q = write-out payload out last (q ∙ ap (λ (x : ℕ). judged_out c.mps h x payload out) (sym fault-same))
+    head-out payload out last q = write-out payload out last (q ∙ ap (λ (x : Result Unit Refusal). judged_out c.mps h x payload out) (sym fault-same))
 
 -- ---- with the rows of the settings' and the packet's fields
 
-module _ (c : Settings) (p : Packet) (n : ℕ) (e : n ≡ first (field_rows c p)) where
-  pub field-refused : (k room : ℕ) → (n ≡ 0 → ⊥) → Refused n ≡ write_packet c p k room
+module _ (c : Settings) (p : Packet) (r : Refusal) (e : Err r ≡ checked (first (field_rows c p))) where
+  pub field-refused : (k room : ℕ) → Err r ≡ write_packet c p k room
   unfolding write_packet
-  field-refused k room z = rw (← some_of (field_rows c p) (later_rows c p k room) n e z) (answer-refused n (size_of p) z)
+  field-refused k room =
+      let n = first (field_rows c p) in
+      rw (← some_of (field_rows c p) (later_rows c p k room) n refl (err_number r tt n e)) (err_answer r tt (size_of p) n e)
 
-  pub field_out : (payload out : List ℕ) → (n ≡ 0 → ⊥) → out ≡ write_out c p payload out
+  pub field_out : (payload out : List ℕ) → out ≡ write_out c p payload out
   unfolding write_out
-  field_out payload out z = rw (← field-refused (length payload) (length out) z)
+  field_out payload out = rw (← field-refused (length payload) (length out))

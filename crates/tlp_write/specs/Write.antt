@@ -1,19 +1,18 @@
 -- Document 01, the writer: its numbers in its order, what it answers, and what the output holds afterwards. A reader
--- must believe write_rows, write_packet, write_out and what they are built from here, and that number_of gives an answer
--- its number.
-use Rattle.std.specs.Prelude.{ℕ, zero, suc, not, List, [], ◌∷◌, ◌++◌, eqb, ltb, length}
+-- must believe write_rows, write_packet, write_out and what they are built from here.
+use Rattle.std.specs.Prelude.{ℕ, not, List, [], ◌∷◌, ◌++◌, eqb, ltb, length, Result, Ok, Err}
 use Rattle.bits.specs.Put.{over_front}
 use Rattle.tlp.specs.Rows.{Row, row, first}
+use Rattle.tlp.specs.Refusals.{answered}
 use Rattle.tlp.specs.Settings.{settings_listed}
 use Rattle.tlp.specs.Packets.{type_of, access_of}
 use Rattle.tlp.specs.Sizes.{data_bytes}
 use Rattle.tlp.specs.Contents.{content_rows}
 use Rattle.tlp.specs.declared.settings.Settings.{Settings}
 use Rattle.tlp.specs.declared.packet.Packet.{Packet}
+use Rattle.tlp.specs.declared.refusal.Refusal.{Refusal}
 use Rattle.tlp_writable.specs.Given.{given_rows}
 use Rattle.tlp_write.specs.Layout.{size_of, bytes_of}
-use Rattle.tlp_write.specs.declared.WriteAnswer.{WriteAnswer}
-use Rattle.tlp_write.specs.declared.WriteAnswer.TheVariants.{Written, Refused}
 
 -- "It refuses 11 first; then 6 .."
 abbrev pub field_rows : Settings → Packet → List Row
@@ -32,22 +31,13 @@ later_rows settings p n room =
 abbrev pub write_rows : Settings → Packet → ℕ → ℕ → List Row
 write_rows settings p n room = field_rows settings p ++ later_rows settings p n room
 
-abbrev pub write_answer : ℕ → ℕ → WriteAnswer
-write_answer zero size = Written size
-write_answer (suc n) size = Refused (suc n)
-
 -- what writing answers: the number of the first row that holds, else the size written
-unfoldable pub write_packet : Settings → Packet → ℕ → ℕ → WriteAnswer
-write_packet settings p n room = write_answer (first (write_rows settings p n room)) (size_of p)
+unfoldable pub write_packet : Settings → Packet → ℕ → ℕ → Result ℕ Refusal
+write_packet settings p n room = answered (first (write_rows settings p n room)) (size_of p)
 
--- the number of an answer; 0 for written
-abbrev pub number_of : WriteAnswer → ℕ
-number_of (Written n) = 0
-number_of (Refused n) = n
-
-abbrev pub out_after : WriteAnswer → List ℕ → List ℕ → List ℕ
-out_after (Written n) xs out = over_front xs out
-out_after (Refused n) xs out = out
+abbrev pub out_after : Result ℕ Refusal → List ℕ → List ℕ → List ℕ
+out_after (Ok n) xs out = over_front xs out
+out_after (Err r) xs out = out
 
 -- the output afterwards: "On success output beyond the packet is unchanged"; after a refusal all of it is
 unfoldable pub write_out : Settings → Packet → List ℕ → List ℕ → List ℕ

@@ -5,19 +5,19 @@ ghost use Rattle.tlp_write.specs.Layout.{routing, routing_in};
 ghost use Rattle.tlp_write.specs.Inner.Head.{listed_fault, IsHead, head_front};
 
 use crate::words::{Words, own_words};
-use bits::choice::flag_of;
 use bits::word::{join16, join32};
 use tlp::content::fault_of;
 use tlp::packet::{Implicit, Kind, Packet, Route, access_of, type_of};
 use tlp::packet_type::{PacketType, family_of, first_byte};
+use tlp::refusal::Refusal;
 
 #[derive(Clone, Copy)]
 pub struct Head {
     pub packet_type: PacketType,
     // What byte 0 has beside the type: a message's routing.
     pub routing: u8,
-    // The first of the rows 6 to 8 that holds; any other number is none.
-    pub fault: u32,
+    // The first of the rows 6 to 8 that holds; any other refusal is none.
+    pub fault: Result<(), Refusal>,
     pub words: Words,
     pub traffic_class: u8,
     pub attributes: u8,
@@ -27,27 +27,13 @@ pub struct Head {
     pub length: u32,
 }
 
-// No other number than 6 to 8 is handed on.
-pub(crate) fn listed_fault(n: u32) -> u32
-    ensures { result ≡ listed_fault n }
+// No other fault than those of the rows 6 to 8 is handed on.
+pub(crate) fn listed_fault(fault: Result<(), Refusal>) -> Result<(), Refusal>
+    ensures { result ≡ listed_fault fault }
 {
-    if n < 6 {
-        return 0;
-    }
-    if 8 < n {
-        return 0;
-    }
-    n
-}
-
-fn implicit_routing(w: Implicit) -> u8
-    ensures { result ≡ routing (Route.Implicit w) }
-{
-    match w {
-        Implicit::Root => 0,
-        Implicit::Broadcast => 3,
-        Implicit::Local => 4,
-        Implicit::Gathered => 5,
+    match fault {
+        Err(Refusal::BadField | Refusal::BadEnables | Refusal::Crosses4K) => fault,
+        _ => Ok(()),
     }
 }
 
@@ -57,53 +43,54 @@ fn routing_of(r: Route) -> u8
     match r {
         Route::Address(_) => 1,
         Route::Id(_) => 2,
-        Route::Implicit(w) => implicit_routing(w),
+        Route::Implicit(Implicit::Root) => 0,
+        Route::Implicit(Implicit::Broadcast) => 3,
+        Route::Implicit(Implicit::Local) => 4,
+        Route::Implicit(Implicit::Gathered) => 5,
     }
 }
 
+#[tactic(auto, unfolding(crate::specs::Layout::routing_in))]
 fn routing_in(r: Route, k: Kind) -> u8
     ensures { result ≡ routing_in r k }
 {
     match k {
-        Kind::MemoryRead(_) => 0,
-        Kind::MemoryWrite(_) => 0,
-        Kind::IoRead(_) => 0,
-        Kind::IoWrite(_) => 0,
-        Kind::ConfigRead0(_) => 0,
-        Kind::ConfigWrite0(_) => 0,
-        Kind::ConfigRead1(_) => 0,
-        Kind::ConfigWrite1(_) => 0,
-        Kind::Message(_) => routing_of(r),
-        Kind::MessageData {
-            message: _,
-            length: _,
-        } => routing_of(r),
-        Kind::Completion(_) => 0,
-        Kind::CompletionData {
-            completion: _,
-            length: _,
-        } => 0,
+        Kind::Message(_) | Kind::MessageData { .. } => routing_of(r),
+        Kind::MemoryRead(_)
+        | Kind::MemoryWrite(_)
+        | Kind::IoRead(_)
+        | Kind::IoWrite(_)
+        | Kind::ConfigRead0(_)
+        | Kind::ConfigWrite0(_)
+        | Kind::ConfigRead1(_)
+        | Kind::ConfigWrite1(_)
+        | Kind::Completion(_)
+        | Kind::CompletionData { .. } => 0,
     }
 }
 
 pub(crate) fn head_of(p: Packet) -> Head
     ensures { IsHead result p }
 {
-    let t = type_of(p);
-    let a = access_of(p);
-    let route = p.route;
-    let kind = p.kind;
+    let packet_type = type_of(p);
+    let access = access_of(p);
     Head {
-        packet_type: t,
-        routing: routing_in(route, kind),
-        fault: fault_of(family_of(t), a, p.traffic_class, p.attributes, 0),
-        words: own_words(route, kind),
+        packet_type,
+        routing: routing_in(p.route, p.kind),
+        fault: fault_of(
+            family_of(packet_type),
+            access,
+            p.traffic_class,
+            p.attributes,
+            0,
+        ),
+        words: own_words(p.route, p.kind),
         traffic_class: p.traffic_class,
         attributes: p.attributes,
         poisoned: p.poisoned,
         has_digest: p.has_digest,
         digest: p.digest,
-        length: a.length,
+        length: access.length,
     }
 }
 
@@ -117,10 +104,9 @@ fn word_of_bytes(a: u8, b: u8, c: u8, d: u8) -> u32
 pub(crate) fn front_word(h: Head) -> u32
     ensures { bytes 4 result ≡ head_front h }
 {
-    let t = h.packet_type;
-    let b0 = first_byte(t) + h.routing % 8;
+    let b0 = first_byte(h.packet_type) + h.routing % 8;
     let high = (h.length / 256 % 4) as u8;
-    let flags = flag_of(h.has_digest) * 128 + flag_of(h.poisoned) * 64;
+    let flags = u8::from(h.has_digest) * 128 + u8::from(h.poisoned) * 64;
     word_of_bytes(
         b0,
         h.traffic_class % 8 * 16 + h.attributes / 4 % 2 * 4,

@@ -19,36 +19,18 @@ pub(crate) fn put_at(at: usize, src: &[u8], out: &mut [u8]) -> usize
     end
 }
 
-// The same for numbers of eight and four bytes.
-fn put_eight(at: usize, x: u64, out: &mut [u8])
-    requires { at + 8 ≤ length out.old }
-    ensures { out.new ≡ put at (bytes 8 x) out.old }
-{
-    let w = bytes64(x);
-    put_at(at, &w, out);
-}
-
-fn put_four(at: usize, x: u32, out: &mut [u8])
-    requires { at + 4 ≤ length out.old }
-    ensures { out.new ≡ put at (bytes 4 x) out.old }
-{
-    let w = bytes32(x);
-    put_at(at, &w, out);
-}
-
 // Lays a header over the front of the output, and returns its size.
 pub(crate) fn put_words(front: u32, w: Words, wide: bool, out: &mut [u8]) -> usize
     requires { pick wide 16 12 ≤ length out.old }
     ensures { (result ≡ pick wide 16 12)
         × (out.new ≡ put 0 (take (pick wide 16 12) (bytes 4 front ++ word_bytes w)) out.old) }
 {
-    put_eight(0, join64(front, w.second), out);
+    put_at(0, &bytes64(join64(front, w.second)), out);
     if wide {
-        put_eight(8, w.tail, out);
-        return 16;
+        put_at(8, &bytes64(w.tail), out)
+    } else {
+        put_at(8, &bytes32((w.tail / 4294967296) as u32), out)
     }
-    put_four(8, (w.tail / 4294967296) as u32, out);
-    12
 }
 
 // Lays the digest over the output from index at on, where there is one.
@@ -57,6 +39,6 @@ pub(crate) fn put_digest(has_digest: bool, digest: u32, at: usize, out: &mut [u8
     ensures { out.new ≡ put at (pick has_digest (bytes 4 digest) []) out.old }
 {
     if has_digest {
-        put_four(at, digest, out);
+        put_at(at, &bytes32(digest), out);
     }
 }

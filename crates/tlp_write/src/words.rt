@@ -5,7 +5,6 @@ ghost use Rattle.tlp_write.specs.Layout.{request_bytes, memory_address, config_b
 ghost use Rattle.tlp_write.specs.Inner.Padded.{padded};
 ghost use Rattle.tlp_write.specs.Inner.Head.{word_bytes};
 
-use bits::choice::flag_of;
 use bits::word::{join16, join32};
 use tlp::packet::{
     CompletionHeader, ConfigRequest, Kind, MessageRequest, Request, Route, address_of, id_of,
@@ -32,13 +31,11 @@ fn high_half(a: u64) -> u64
     a % 4294967296 * 4294967296
 }
 
+#[tactic(auto, unfolding(crate::specs::Layout::memory_address))]
 fn memory_tail(a: u64) -> u64
     ensures { bytes 8 result ≡ padded 8 (memory_address a) }
 {
-    if a < 4294967296 {
-        return high_half(a);
-    }
-    a
+    if a < 4294967296 { high_half(a) } else { a }
 }
 
 fn request_word(q: Request) -> u32
@@ -71,10 +68,9 @@ pub fn io_words(address: u64, q: Request) -> Words
 pub fn config_words(target: u16, q: ConfigRequest) -> Words
     ensures { word_bytes result ≡ padded 12 (config_bytes target q) }
 {
-    let own = q.request;
     let third = word_of(target, q.extended_register % 16, q.register % 64 * 4);
     Words {
-        second: request_word(own),
+        second: request_word(q.request),
         tail: high_half(third as u64),
     }
 }
@@ -95,7 +91,7 @@ pub fn completion_words(requester: u16, c: CompletionHeader) -> Words
 {
     let high = (c.byte_count / 256 % 16) as u8;
     let low = (c.byte_count % 256) as u8;
-    let b6 = c.status % 8 * 32 + flag_of(c.byte_count_modified) * 16 + high;
+    let b6 = c.status % 8 * 32 + u8::from(c.byte_count_modified) * 16 + high;
     let third = word_of(requester, c.tag, c.lower_address % 128);
     Words {
         second: word_of(c.completer, b6, low),
@@ -103,26 +99,20 @@ pub fn completion_words(requester: u16, c: CompletionHeader) -> Words
     }
 }
 
+#[tactic(auto, unfolding(crate::specs::Layout::own_bytes))]
 pub(crate) fn own_words(r: Route, k: Kind) -> Words
     ensures { word_bytes result ≡ padded 12 (own_bytes r k) }
 {
-    let address = address_of(r);
-    let id = id_of(r);
     match k {
-        Kind::MemoryRead(q) => memory_words(address, q),
-        Kind::MemoryWrite(q) => memory_words(address, q),
-        Kind::IoRead(q) => io_words(address, q),
-        Kind::IoWrite(q) => io_words(address, q),
-        Kind::ConfigRead0(q) => config_words(id, q),
-        Kind::ConfigWrite0(q) => config_words(id, q),
-        Kind::ConfigRead1(q) => config_words(id, q),
-        Kind::ConfigWrite1(q) => config_words(id, q),
-        Kind::Message(m) => message_words(m),
-        Kind::MessageData { message, length: _ } => message_words(message),
-        Kind::Completion(c) => completion_words(id, c),
-        Kind::CompletionData {
-            completion,
-            length: _,
-        } => completion_words(id, completion),
+        Kind::MemoryRead(q) | Kind::MemoryWrite(q) => memory_words(address_of(r), q),
+        Kind::IoRead(q) | Kind::IoWrite(q) => io_words(address_of(r), q),
+        Kind::ConfigRead0(q)
+        | Kind::ConfigWrite0(q)
+        | Kind::ConfigRead1(q)
+        | Kind::ConfigWrite1(q) => config_words(id_of(r), q),
+        Kind::Message(m) | Kind::MessageData { message: m, .. } => message_words(m),
+        Kind::Completion(c) | Kind::CompletionData { completion: c, .. } => {
+            completion_words(id_of(r), c)
+        }
     }
 }

@@ -1,24 +1,20 @@
 -- Serves the contracts of the functions of src/lay.rt: a record's parts straight from a packet's bytes.
-use Rattle.std.specs.Prelude.{ℕ, ◌+◌, ◌≤◌, List, [], ◌∷◌, ◌++◌, length}
+use Rattle.std.specs.Prelude.{ℕ, List, [], ◌∷◌, ◌++◌}
 use Rattle.bits.specs.Choice.{pick, flag}
 use Rattle.bits.specs.Word.{bytes}
 use Rattle.bits.specs.Put.{over_front}
 use Rattle.tlp.specs.PacketTypes.{packet_type_at, has_data}
 use Rattle.tlp.specs.Sizes.{length_at, digest_at}
-use Rattle.tlp_read.specs.Fields.{traffic_class_at, all_attributes_at, poisoned_at, requester_at, tag_at, first_enables_at, last_enables_at, extended_register_at, register_at, code_at}
-use Rattle.tlp_read.specs.Fields.{status_at, byte_count_modified_at, lower_address_field_at, message_route_at, kind_at, packet_at}
-use Rattle.tlp_record.specs.Places.{record_size}
-use Rattle.tlp_record.specs.Record.{fields_of, route_case, record_of}
-
--- a record fits
-abbrev pub Room : List ℕ → Type 0
-Room out = record_size ≤ length out
+use Rattle.tlp_read.specs.Fields.{traffic_class_at, poisoned_at, requester_at, first_enables_at, last_enables_at, extended_register_at, register_at}
+use Rattle.tlp_read.specs.Fields.{status_at, byte_count_modified_at, lower_address_field_at, kind_at, packet_at}
+use Rattle.tlp_record.specs.Record.{fields_of, record_of}
+use Rattle.tlp_record_read.specs.declared.lay.Front.{Front}
 
 -- bytes 0 to 7
-abbrev pub front_read : ℕ → ℕ → ℕ → ℕ → ℕ → List ℕ → List ℕ
-front_read kind attributes route tag code packet =
-    kind ∷ traffic_class_at packet ∷ attributes ∷ flag (poisoned_at packet) ∷ flag (digest_at packet)
-    ∷ route ∷ tag ∷ code ∷ []
+abbrev pub front_read : Front → List ℕ → List ℕ
+front_read f packet =
+    f.kind ∷ traffic_class_at packet ∷ f.attributes ∷ flag (poisoned_at packet) ∷ flag (digest_at packet)
+    ∷ f.route ∷ f.tag ∷ f.code ∷ []
 
 -- 1 where data follows the header
 abbrev pub data_flag : List ℕ → ℕ
@@ -31,12 +27,6 @@ kind_read packet = (fields_of (kind_at (packet_type_at packet) packet)).kind
 -- Msg and Cpl have no length
 abbrev pub length_given : List ℕ → ℕ
 length_given packet = pick (has_data (packet_type_at packet)) (length_at packet) 0
-
--- bytes 0 to 7 of a message
-abbrev pub message_front : List ℕ → List ℕ
-message_front packet =
-    front_read (9 + data_flag packet) (all_attributes_at packet) (route_case (message_route_at packet))
-    (tag_at packet) (code_at packet) packet
 
 -- bytes 32 to 39 of a request
 abbrev pub request_part : List ℕ → List ℕ

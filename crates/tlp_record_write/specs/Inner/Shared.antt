@@ -1,5 +1,5 @@
 -- For the contracts of shared.rt: what is looked at alike in the record of every kind (docs/RECORD.md).
-use Rattle.std.specs.Prelude.{ℕ, ◌^◌, Bool, true, ◌&&◌, ◌||◌, not, List, eqb, leb, ltb}
+use Rattle.std.specs.Prelude.{ℕ, ◌^◌, Bool, true, ◌&&◌, not, List, eqb, leb, ltb}
 use Rattle.bits.specs.Choice.{pick}
 use Rattle.bits.specs.Word.{byte, word}
 use Rattle.tlp_writable.specs.Given.{common_bad}
@@ -14,10 +14,7 @@ flags_kept poisoned digest = leb poisoned 1 && leb digest 1
 abbrev pub route_kept : ℕ → ℕ → Bool
 route_kept route value = pick (eqb route 0) true (pick (eqb route 1) (ltb value (2 ^ 16)) (leb route 5 && eqb value 0))
 
--- traffic class, attributes and digest: those that a packet of the record must not hold (common_bad)
-abbrev pub common_over : ℕ → ℕ → ℕ → ℕ → Bool
-common_over tc attr td digest = leb 8 tc || (leb 8 attr || (not (eqb td 1) && not (eqb digest 0)))
-
+-- with traffic class, attributes and digest that a packet may hold
 unfoldable pub shared_fits : List ℕ → Bool
 shared_fits fields =
     flags_kept (byte fields poisoned_place) (byte fields digest_present_place)

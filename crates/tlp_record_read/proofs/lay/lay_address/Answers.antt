@@ -1,15 +1,13 @@
-use Rattle.tlp_record_read.proofs.LayLaws.{wide_room, narrow-room, wide-laid, narrow-laid}
-use borrow.Author.Rules.{rules}
+use Rattle.std.proofs.Common.{rules}
+use Rattle.tlp_record_read.proofs.LayLaws.{wide-bytes, narrow-bytes, wide-laid, narrow-laid}
 use Rattle.tlp_record_read.proofs.lay.lay_address.Goals as goal
 
-pub lay_wide-requires : goal.lay_wide-requires
-lay_wide-requires c = record { in_bounds = search wide_room; room = search rules }
-
 pub returns-then-is_wide : goal.returns-then-is_wide
-returns-then-is_wide c = search wide-laid
+returns-then-is_wide c =
+    let e = wide-bytes _ _ _ (λ i. (c.type_inv.packet i).fits) c.lay.ensures in
+    search (wide-laid, rules)
 
-pub lay_narrow-requires : goal.lay_narrow-requires
-lay_narrow-requires c = record { in_bounds = search narrow-room; room = search rules }
-
-pub returns : goal.returns
-returns c = search narrow-laid
+pub returns-else-is_wide : goal.returns-else-is_wide
+returns-else-is_wide c =
+    let e = narrow-bytes _ _ _ (λ i. (c.type_inv.packet i).fits) c.lay-else-is_wide.ensures in
+    search (narrow-laid, rules)

@@ -1,5 +1,8 @@
-use Rattle.tlp_record_write.proofs.KindHeadLaws.{memory-is}
+use Rattle.tlp_record_write.proofs.KindHeadLaws.{memory-none, memory-some}
 use Rattle.tlp_record_write.proofs.kind_head.memory_head.Goals as goal
 
+pub returns-then-not-memory_fits : goal.returns-then-not-memory_fits
+returns-then-not-memory_fits c = search memory-none
+
 pub returns : goal.returns
-returns c = search (memory-is, c.type_inv.record) depth 10 fits 4000
+returns c = search memory-some depth 10 fits 4000

@@ -1,8 +1,8 @@
 use Rattle.tlp_write.proofs.PutLaws.{digest-room, digest-put, digest-none}
 use Rattle.tlp_write.proofs.put.put_digest.Goals as goal
 
-pub put_four-requires : goal.put_four-requires
-put_four-requires c = search digest-room
+pub put_at-requires : goal.put_at-requires
+put_at-requires c = search digest-room
 
 pub returns-then-has_digest : goal.returns-then-has_digest
 returns-then-has_digest c = search digest-put
