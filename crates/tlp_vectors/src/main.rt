@@ -7,31 +7,34 @@
 // and two for each byte.
 #![tactic(auto)]
 
-ghost use Rattle.std.specs.Prelude.{◌≤◌, ◌<◌, ◌^◌, length};
+ghost use Rattle.std.specs.Prelude.{◌≤◌, ◌<◌, ◌^◌, length, IfSome};
 
-use bits::choice::lesser;
 use bits::word::byte_at;
 use text::buffer::move_to_front;
-use text::fields::{Field, hex_after, line_start};
-use text::hex::{Spelled, hex_bytes, put_hex};
+use text::fields::{Field, hex_after};
+use text::hex::{hex_bytes, put_hex};
 use text::lines::line_end;
-use text::words::{Value, part, value_at};
+use text::words::{part, value_at};
 use tlp::settings::Settings;
 use tlp_read::ReadAnswer;
 use tlp_record::places::RECORD_SIZE;
 
-// Eight hexadecimal digits.
-fn eight_hex(line: &[u8], before: Field, key: &[u8]) -> Field
-    ensures { result.value < 4294967296 }
+// The number of so many hexadecimal digits after a field; none after a field that is none.
+fn hex_next(line: &[u8], before: Option<Field>, width: usize) -> Option<Field>
+    ensures { IfSome result (λ f. f.value < 16 ^ width) }
 {
-    hex_after(line, before, key, 8)
+    hex_after(line, before?.next, b" ", width)
 }
 
-// Four of them.
-fn four_hex(line: &[u8], before: Field, key: &[u8]) -> Field
-    ensures { result.value < 65536 }
+// The value of a setting, and the index behind a field: 0 where there is none.
+fn setting(field: Option<Field>) -> u32
+    requires { IfSome field (λ f. f.value < 16 ^ 8) }
 {
-    hex_after(line, before, key, 4)
+    field.map_or(0, |f| f.value as u32)
+}
+
+fn behind(field: Option<Field>) -> usize {
+    field.map_or(0, |f| f.next)
 }
 
 // How many bytes were spelled, and the index after their digits.
@@ -41,25 +44,16 @@ struct SpelledPart {
     next: usize,
 }
 
-fn spelled(digits: &[u8], out: &mut [u8]) -> usize {
-    let answer = hex_bytes(digits, out);
-    match answer {
-        Spelled::Bytes(n) => n,
-        Spelled::Bad => 0,
-    }
-}
-
 // The bytes that the digits behind the space at index at spell, over the front of out.
 fn bytes_after(line: &[u8], at: usize, out: &mut [u8]) -> SpelledPart {
-    let place = value_at(line, at, b" ");
-    match place {
-        Value::Missing => SpelledPart {
+    match value_at(line, at, b" ") {
+        Some(place) => SpelledPart {
+            size: hex_bytes(part(line, place.from, place.to), out).unwrap_or(0),
+            next: place.to,
+        },
+        None => SpelledPart {
             size: 0,
             next: line.len(),
-        },
-        Value::Found { from, to } => SpelledPart {
-            size: spelled(part(line, from, to), out),
-            next: to,
         },
     }
 }
@@ -78,23 +72,23 @@ fn print_number(n: u64) {
     io::print_decimal(1, n);
 }
 
-// The settings of a line, and the last field of them.
+// The settings of a line, and the last field of them. A line of another form is run too, with 0 from its fault on.
 #[derive(Clone, Copy)]
 struct SettingsPart {
     settings: Settings,
-    end: Field,
+    end: Option<Field>,
 }
 
 // The line begins with key.
 fn settings_part(line: &[u8], key: &[u8]) -> SettingsPart {
-    let mps = eight_hex(line, line_start(), key);
-    let mrrs = eight_hex(line, mps, b" ");
-    let rcb = eight_hex(line, mrrs, b" ");
+    let mps = hex_after(line, 0, key, 8);
+    let mrrs = hex_next(line, mps, 8);
+    let rcb = hex_next(line, mrrs, 8);
     SettingsPart {
         settings: Settings {
-            mps: mps.value as u32,
-            mrrs: mrrs.value as u32,
-            rcb: rcb.value as u32,
+            mps: setting(mps),
+            mrrs: setting(mrrs),
+            rcb: setting(rcb),
         },
         end: rcb,
     }
@@ -104,9 +98,8 @@ fn settings_part(line: &[u8], key: &[u8]) -> SettingsPart {
 fn run_read(line: &[u8]) {
     let front = settings_part(line, b"r ");
     let settings = front.settings;
-    let end = front.end;
     let mut space = [0u8; 10000];
-    let digits = bytes_after(line, end.next, &mut space);
+    let digits = bytes_after(line, behind(front.end), &mut space);
     let packet = part(&space, 0, digits.size);
     let mut record = [0u8; RECORD_SIZE];
     let number = tlp_c::tollpebble_read(
@@ -118,8 +111,7 @@ fn run_read(line: &[u8]) {
     );
     print(b"code=");
     print_number(number as u64);
-    let answer = tlp_read::read(settings, packet);
-    if let ReadAnswer::Accepted(p) = answer {
+    if let ReadAnswer::Accepted(p) = tlp_read::read(settings, packet) {
         print(b" record=");
         print_bytes(&record);
         print(b" payload=");
@@ -152,21 +144,19 @@ fn write_into(settings: Settings, record: &[u8], payload: &[u8], out: &mut [u8])
 // The record's digits end at their space, so its length is passed over.
 fn run_write(line: &[u8]) {
     let front = settings_part(line, b"w ");
-    let settings = front.settings;
-    let end = front.end;
-    let room = four_hex(line, end, b" ");
-    let length = four_hex(line, room, b" ");
+    let room = hex_next(line, front.end, 4);
+    let length = hex_next(line, room, 4);
     let mut record_space = [0u8; 10000];
-    let record = bytes_after(line, length.next, &mut record_space);
+    let record = bytes_after(line, behind(length), &mut record_space);
     let mut payload_space = [0u8; 10000];
     let payload = bytes_after(line, record.next, &mut payload_space);
     let mut out = [0xeeu8; 10000];
-    let used = lesser(room.value as usize, 10000);
+    let used = out.len().min(room.map_or(0, |f| f.value as usize));
     write_into(
-        settings,
+        front.settings,
         part(&record_space, 0, record.size),
         part(&payload_space, 0, payload.size),
-        &mut out[0..used],
+        &mut out[..used],
     );
 }
 
@@ -189,63 +179,54 @@ fn run_lines(text: &[u8]) -> Ran
     ensures { (result.used ≤ length text.now) × (result.lines ≤ result.used) }
 {
     let mut lines: u64 = 0;
-    let mut at: usize = 0;
-    while at < text.len() {
-        let end = line_end(text, at);
+    let mut used: usize = 0;
+    while used < text.len() {
+        let end = line_end(text, used);
         if end == text.len() {
-            return Ran {
-                lines: lines,
-                used: at,
-            };
+            break;
         }
-        run_line(&text[at..end]);
+        run_line(&text[used..end]);
         lines += 1;
-        at = end + 1;
+        used = end + 1;
     }
-    Ran {
-        lines: lines,
-        used: at,
-    }
+    Ran { lines, used }
 }
 
-// What one turn leaves: the bytes kept, the lines run, and whether anything was read.
+// What one turn leaves: the bytes kept and the lines run.
 #[derive(Clone, Copy)]
 struct Turn {
     kept: usize,
     lines: u64,
-    more: bool,
 }
 
-fn read_and_run(buf: &mut [u8], kept: usize) -> Turn
-    ensures { result.lines < 2 ^ 63 }
+// None where nothing more was read: what is kept has no whole line.
+fn read_and_run(buf: &mut [u8], kept: usize) -> Option<Turn>
+    requires { kept ≤ length buf.old }
+    ensures { IfSome result (λ t. (t.kept ≤ length buf.old) × (t.lines < 2 ^ 63)) }
 {
-    let from = lesser(kept, buf.len());
-    let got = io::read_full(0, &mut buf[from..]);
-    let n = lesser(from + lesser(got, 65536), buf.len());
-    let ran = run_lines(part(buf, 0, n));
-    let used = lesser(ran.used, n);
-    move_to_front(buf, used, n);
-    Turn {
-        kept: n - used,
-        lines: ran.lines,
-        more: 0 < got,
+    let got = io::read_full(0, &mut buf[kept..]);
+    if got == 0 {
+        return None;
     }
+    let n = kept + got;
+    let ran = run_lines(&buf[..n]);
+    move_to_front(buf, ran.used, n);
+    Some(Turn {
+        kept: n - ran.used,
+        lines: ran.lines,
+    })
 }
 
 fn main() {
     let mut buf = io::large_buffer();
     let mut kept: usize = 0;
     let mut lines: u64 = 0;
-    let mut turns: u32 = 0;
-    while turns < 4096 {
-        let t = read_and_run(&mut buf, kept);
+    for _ in 0..4096 {
+        let Some(t) = read_and_run(&mut buf, kept) else {
+            break;
+        };
         kept = t.kept;
         lines = (lines + t.lines) % 4294967296;
-        if !t.more {
-            turns = 4096;
-        } else {
-            turns += 1;
-        }
     }
     print(b"lines=");
     print_number(lines);

@@ -1,12 +1,8 @@
-use lib.ListN.{length, length-set}
-use mathlib.Core.Path.{◌≡◌}
-use Prim.Native.Nat.{◌+◌, ◌-◌, ◌*◌, ◌/◌, ◌≤◌, ◌<◌}
-use native.Mathlib.Omega.{arith}
-use borrow.Author.Rules.{rules}
+use Rattle.std.proofs.Common.{◌-◌, ◌≤◌, length}
 use Rattle.tlp_vectors.proofs.run_lines.Given as goal
 
-abbrev pub invariant-loop-at : goal.invariant-loop-at
-invariant-loop-at l = (l.at ≤ length l.text) × (l.lines ≤ l.at)
+abbrev pub invariant-loop-used : goal.invariant-loop-used
+invariant-loop-used l = (l.used ≤ length l.text) × (l.lines ≤ l.used)
 
-abbrev pub decreases-loop-at : goal.decreases-loop-at
-decreases-loop-at l = length l.text - l.at
+abbrev pub decreases-loop-used : goal.decreases-loop-used
+decreases-loop-used l = length l.text - l.used
