@@ -4,6 +4,8 @@ use mathlib.Core.Path.{◌≡◌, refl, sym, ◌∙◌, ap}
 use mathlib.Core.Bool.{Bool, true, false}
 use mathlib.Core.Logic.{◌⊎◌, ⊎_elim}
 use lib.Dec.{eqb}
+use Rattle.tlp.specs.declared.refusal.Refusal.TheVariants.{OutputTooShort}
+use Rattle.std.specs.Prelude.{Ok, Err}
 use Rattle.capture_blocks.specs.Inner.Steps.{silent_step, number_step}
 use mathlib.Core.List.{List, [], ◌∷◌, append-nil}
 use native.Mathlib.Omega.{arith}
@@ -23,7 +25,6 @@ use Rattle.capture_blocks.specs.Inner.Rooms.{Room}
 use Rattle.capture_blocks.specs.declared.Progress.{Progress}
 use Rattle.capture_blocks.specs.declared.Progress.TheVariants.{First, Lines, Skipping, Refused}
 use Rattle.capture_blocks.specs.declared.Step.{Step}
-use Rattle.capture_blocks.specs.declared.BlockAnswer.TheVariants.{Stepped, Refused as BlockRefused}
 use Rattle.capture_blocks.proofs.StepReturns.{silent-step, number_step_lem, number-output}
 
 -- ---- step_within: after a bad line one
@@ -46,7 +47,7 @@ module _ (p : Progress) (bytes out : List ℕ) where
     no_room : has_room (length bytes) out ≡ false
     no_room = lt-leb (printed_each * length bytes) (length out) (omega (arith, h))
 
-    pub step-short : BlockRefused 12 ≡ step_answer p bytes out
+    pub step-short : Err OutputTooShort ≡ step_answer p bytes out
     unfolding step_answer
     step-short = rw no_room
 
@@ -61,7 +62,7 @@ module _ (p : Progress) (bytes out : List ℕ) where
     step_fits : printed_each * length bytes ≤ length out
     step_fits = omega (arith, h)
 
-    pub step-done : (step : Step) → step ≡ step_in (step_of p bytes) (length bytes) → Stepped step ≡ step_answer p bytes out
+    pub step-done : (step : Step) → step ≡ step_in (step_of p bytes) (length bytes) → Ok step ≡ step_answer p bytes out
     unfolding step_answer
     step-done step e = rw (le-leb (printed_each * length bytes) (length out) step_fits, e)
 
@@ -127,7 +128,7 @@ module _ (p : Progress) (rest out : List ℕ) where
 
 module _ (p : Progress) (rest out : List ℕ) where
   module _ (h : length out < printed_each) where
-    pub end_short : BlockRefused 12 ≡ end_answer p rest out
+    pub end_short : Err OutputTooShort ≡ end_answer p rest out
     unfolding end_answer
     end_short = rw (lt-leb (printed_each * 1) (length out) (omega (arith, h)))
 
@@ -136,7 +137,7 @@ module _ (p : Progress) (rest out : List ℕ) where
     end-short-output = rw (lt-leb (printed_each * 1) (length out) (omega (arith, h)))
 
   module _ (h : printed_each ≤ length out) where
-    pub end-done : (step : Step) → step ≡ step_in (ending p rest) (length rest) → Stepped step ≡ end_answer p rest out
+    pub end-done : (step : Step) → step ≡ step_in (ending p rest) (length rest) → Ok step ≡ end_answer p rest out
     unfolding end_answer
     end-done step e = rw (le-leb (printed_each * 1) (length out) (omega (arith, h)), e)
 

@@ -8,12 +8,13 @@ use native.Mathlib.Omega.{arith}
 use lib.ListN.{length, length-append}
 use borrow.Author.Tests.{ltb-true, lt-ltb}
 use Rattle.tlp.specs.declared.settings.Settings.{Settings}
-use Rattle.capture_print.specs.declared.LineAnswer.{LineAnswer}
+use Rattle.tlp.specs.declared.refusal.Refusal.{Refusal}
+use Rattle.tlp.specs.declared.refusal.Refusal.TheVariants.{BadLine}
+use Rattle.tlp.specs.declared.packet.Packet.{Packet}
 use Rattle.capture_lines.specs.Lines.{text_most, over_long}
 use Rattle.capture_print.specs.Outputs.{totals_line}
-use Rattle.capture_print.specs.declared.LineAnswer.TheVariants.{Bad}
 use Rattle.capture_decode.specs.Decode.{Decoding, line_read, header_read, refused_count, line_step, no_lines, tail_decoded, lines_decoded}
-use Rattle.std.specs.Prelude.{None}
+use Rattle.std.specs.Prelude.{None, Result, Err}
 
 -- ---- one decoding before another
 
@@ -23,10 +24,10 @@ then a b = record { output = a.output ++ b.output; lines = a.lines + b.lines; re
 pub none_then : (b : Decoding) → then no_lines b ≡ b
 none_then b = rw (zero-add b.lines, zero-add b.refused)
 
-pub step_then : (x : LineAnswer) (a b : Decoding) → line_step x (then a b) ≡ then (line_step x a) b
+pub step_then : (x : Result Packet Refusal) (a b : Decoding) → line_step x (then a b) ≡ then (line_step x a) b
 step_then x a b = rw (append_assoc, add_assoc (refused_count x), suc-add)
 
-pub first_then : (x : LineAnswer) (d : Decoding) → line_step x d ≡ then (line_step x no_lines) d
+pub first_then : (x : Result Packet Refusal) (d : Decoding) → line_step x d ≡ then (line_step x no_lines) d
 first_then x d = ap (line_step x) (sym (none_then d)) ∙ step_then x no_lines d
 
 pub lines_then : (c : Settings) (texts : List (List ℕ)) (a b : Decoding) → lines_decoded c texts (then a b) ≡ then (lines_decoded c texts a) b
@@ -54,7 +55,7 @@ module _ (t : List ℕ) (h : over_long t ≡ true) where
   unfolding over_long
   over-long-more text = lt-ltb text_most (length (t ++ text)) (omega (arith, ltb-true text_most (length t) h, length-append t text))
 
-  pub over-long-line : (c : Settings) (text : List ℕ) → line_read c (t ++ text) ≡ Bad
+  pub over-long-line : (c : Settings) (text : List ℕ) → line_read c (t ++ text) ≡ Err BadLine
   unfolding line_read
   over-long-line c text = rw (over-long-more text)
 
@@ -62,7 +63,7 @@ module _ (t : List ℕ) (h : over_long t ≡ true) where
   unfolding header_read
   over-long-header text = rw (over-long-more text)
 
-pub over-long-tail : (t y : List ℕ) → over_long t ≡ true → tail_decoded (t ++ y) ≡ line_step Bad no_lines
+pub over-long-tail : (t y : List ℕ) → over_long t ≡ true → tail_decoded (t ++ y) ≡ line_step (Err BadLine) no_lines
 unfolding over_long tail_decoded
 over-long-tail [] y h = absurd (omega (arith, ltb-true text_most 0 h))
 over-long-tail (b ∷ t) y h = refl

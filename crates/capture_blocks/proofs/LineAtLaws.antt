@@ -1,6 +1,6 @@
 -- What one line comes to, return by return.
 use Prim.Native.Nat.{ℕ, ◌+◌, ◌-◌, ◌*◌, ◌≤◌, ◌<◌}
-use Rattle.std.specs.Prelude.{Some, None}
+use Rattle.std.specs.Prelude.{Some, None, Result, Err}
 use mathlib.Core.Path.{◌≡◌, ◌∙◌, ap}
 use mathlib.Core.List.{List}
 use native.Mathlib.Omega.{arith}
@@ -9,13 +9,14 @@ use borrow.Author.Tests.{ltb-false}
 use Rattle.text.specs.Laid.{laid}
 use Rattle.text.proofs.LaidLaws.{after-fits, laid-fits}
 use Rattle.tlp.specs.declared.settings.Settings.{Settings}
+use Rattle.tlp.specs.declared.refusal.Refusal.{Refusal}
+use Rattle.tlp.specs.declared.refusal.Refusal.TheVariants.{BadLine}
+use Rattle.tlp.specs.declared.packet.Packet.{Packet}
 use Rattle.capture_lines.specs.Lines.{text_most, over_long, next_line}
 use Rattle.capture_lines.specs.declared.NextLine.{NextLine}
 use Rattle.capture_lines.specs.declared.NextLine.TheVariants.{Ended, OverLong, Unended}
 use Rattle.capture_lines.proofs.NextLaws.{Complete, unended-line, ended-line, over-long-line}
 use Rattle.capture_print.specs.Outputs.{output_line}
-use Rattle.capture_print.specs.declared.LineAnswer.{LineAnswer}
-use Rattle.capture_print.specs.declared.LineAnswer.TheVariants.{Bad}
 use Rattle.capture.specs.PacketLines.{packet_line}
 use Rattle.capture_decode.specs.Decode.{text_read, line_read, refused_count}
 use Rattle.capture_decode.specs.PacketReads.{packet_read}
@@ -37,7 +38,7 @@ module _ (c : Settings) (bytes : List ℕ) (place at : ℕ) (out : List ℕ) (l 
   unfolding line_over
   unended-over end u = rw (unended-line bytes place l v q end u).0
 
-  module _ (room : at + printed_each * (length bytes - place) ≤ length out) (r : LineDone) (out' : List ℕ) (a : LineAnswer) (end : ℕ) (d : r ≡ printed_line a end at out) (o : out' ≡ laid at (output_line a) out) where
+  module _ (room : at + printed_each * (length bytes - place) ≤ length out) (r : LineDone) (out' : List ℕ) (a : Result Packet Refusal) (end : ℕ) (d : r ≡ printed_line a end at out) (o : out' ≡ laid at (output_line a) out) where
     module _ (text : List ℕ) (f : Complete bytes place end text) (k : output_line a ≡ output_line (line_read c text)) (m : refused_count a ≡ refused_count (line_read c text)) where
       line-fits : at + length (output_line a) ≤ length out
       line-fits = rw k (omega (arith, room, output-room c text, f.size, f.inside))
@@ -50,7 +51,7 @@ module _ (c : Settings) (bytes : List ℕ) (place at : ℕ) (out : List ℕ) (l 
       unfolding line_over
       line-over = o ∙ rw (f.first, ← k, laid-fits at (output_line a) out line-fits)
 
-    module _ (u : v ≡ OverLong end) (k : a ≡ Bad) where
+    module _ (u : v ≡ OverLong end) (k : a ≡ Err BadLine) where
       abbrev over : List ℕ
       over = take (end - 1 - place) (drop place bytes)
 
@@ -95,7 +96,7 @@ module _ (bytes : List ℕ) (place : ℕ) (l : place ≤ length bytes) (v : Next
   pub ended-least : v ≡ Ended end → 1 ≤ end
   ended-least u = omega (arith, (ended-line bytes place l v q end u).0.size)
 
-  module _ (r : LineDone) (a : LineAnswer) (at : ℕ) (out : List ℕ) (d : r ≡ printed_line a end at out) where
+  module _ (r : LineDone) (a : Result Packet Refusal) (at : ℕ) (out : List ℕ) (d : r ≡ printed_line a end at out) where
     pub over-long-forward : v ≡ OverLong end → (place < r.end) × (r.end ≤ length bytes) × (r.refused ≤ 1)
     over-long-forward u = let f = (over-long-line bytes place l v q end u).0 in rw d (omega (arith, f.size), f.inside, refused-most a)
 

@@ -12,19 +12,17 @@ use Rattle.bits.proofs.PutLaws.{length-put}
 use Rattle.text.proofs.PutLaws.{put-done}
 use Rattle.text.proofs.LaidLaws.{put_next}
 use Rattle.tlp.specs.declared.settings.Settings.{Settings}
-use Rattle.tlp_read.specs.declared.ReadAnswer.{ReadAnswer}
-use Rattle.tlp_read.specs.declared.ReadAnswer.TheVariants.{Accepted, Refused}
-use Rattle.capture_print.specs.declared.LineAnswer.{LineAnswer}
-use Rattle.capture_print.specs.declared.LineAnswer.TheVariants.{Read, Bad, Refused as Unlaid}
+use Rattle.tlp.specs.declared.refusal.Refusal.{Refusal}
+use Rattle.tlp.specs.declared.packet.Packet.{Packet}
 use Rattle.capture_lines.specs.Lines.{complete_lines, unended}
 use Rattle.capture_print.specs.Outputs.{output_line}
-use Rattle.capture_decode.specs.Decode.{Decoding, no_lines, line_step, line_read, read_refused, refused_count, lines_decoded}
+use Rattle.capture_decode.specs.Decode.{Decoding, no_lines, line_step, line_read, refused_count, lines_decoded}
 use Rattle.capture_decode.specs.Printed.{printed_each}
 use Rattle.capture_decode.proofs.RoomLaws.{output-room}
 use Rattle.capture_lines.proofs.LineLaws.{Following, following, unended-all}
 use Rattle.capture_blocks.specs.Inner.Lines.{line_done, line_done_in, line_over, line_over_in, decoded_from, lines_from}
 use Rattle.capture_blocks.specs.declared.lines.LineDone.{LineDone}
-use Rattle.std.specs.Prelude.{Option, Some, None}
+use Rattle.std.specs.Prelude.{Option, Some, None, Result, Ok, Err}
 use Rattle.std.proofs.lemmas.Option.{none-some}
 use Rattle.capture_blocks.specs.Inner.Rooms.{Room}
 use Rattle.capture_blocks.specs.Inner.Steps.{silent_step}
@@ -72,14 +70,9 @@ module _ (c : Settings) (bytes : List ℕ) (place : ℕ) where
     unfolding decoded_from lines_decoded
     decoded-some = rw (e, next-complete)
 
-read-most : (a : ReadAnswer) → read_refused a ≤ 1
-read-most (Accepted p) = omega arith
-read-most (Refused r) = omega arith
-
-pub refused-most : (a : LineAnswer) → refused_count a ≤ 1
-refused-most (Read a) = read-most a
-refused-most Bad = omega arith
-refused-most (Unlaid n) = omega arith
+pub refused-most : (a : Result Packet Refusal) → refused_count a ≤ 1
+refused-most (Ok p) = omega arith
+refused-most (Err r) = omega arith
 
 some-is : (x y : LineDone) → Some x ≡ Some y → x ≡ y
 some-is x y e = cc

@@ -11,6 +11,8 @@ use Rattle.bits.specs.Put.{put}
 use Rattle.bits.proofs.PutLaws.{length-put}
 use Rattle.text.specs.Laid.{laid, after}
 use Rattle.text.proofs.LaidLaws.{put_next, after-fits, laid-fits}
+use Rattle.tlp.specs.declared.refusal.Refusal.{Refusal}
+use Rattle.std.specs.Prelude.{Result, Ok, Err}
 use Rattle.capture_print.specs.Outputs.{code_line, output_line, totals_line}
 use Rattle.capture_print.proofs.PrintLaws.{code-11, code-13, totals-most}
 use Rattle.capture_decode.specs.Decode.{tail_decoded}
@@ -20,14 +22,12 @@ use Rattle.capture_blocks.specs.Answers.{step_in, ending, step_answer, step_over
 use Rattle.capture_blocks.specs.declared.Progress.{Progress}
 use Rattle.capture_blocks.specs.declared.Progress.TheVariants.{First, Lines, Skipping, Refused}
 use Rattle.capture_blocks.specs.declared.Step.{Step}
-use Rattle.capture_blocks.specs.declared.BlockAnswer.{BlockAnswer}
-use Rattle.capture_blocks.specs.declared.BlockAnswer.TheVariants.{Stepped, Refused as BlockRefused}
 use Rattle.capture_blocks.proofs.CallReturns.{step-done, step-done-output, end-done, end-done-output}
 
 -- ---- an answer that is a step
 
-pub never-refused : (r : BlockAnswer) (step : Step) → r ≡ Stepped step → (number : ℕ) → r ≡ BlockRefused number → ⊥
-never-refused r step e number u = let z : ◌≡◌ {A = ℕ} 0 1 = cc in omega arith
+pub never-refused : (r : Result Step Refusal) (step : Step) → r ≡ Ok step → (refusal : Refusal) → r ≡ Err refusal → ⊥
+never-refused r step e refusal u = let z : ◌≡◌ {A = ℕ} 0 1 = cc in omega arith
 
 -- ---- decode_block
 
@@ -35,7 +35,7 @@ module _ (p : Progress) (bytes out : List ℕ) (room : printed_each * length byt
   fits : length bytes ≤ length out / 8
   fits = omega (arith, room)
 
-  pub block-answer : step_answer p bytes out ≡ Stepped (step_in (step_of p bytes) (length bytes))
+  pub block-answer : step_answer p bytes out ≡ Ok (step_in (step_of p bytes) (length bytes))
   block-answer = sym (step-done p bytes out fits (step_in (step_of p bytes) (length bytes)) refl)
 
   pub block-output : step_over p bytes out ≡ put 0 (step_of p bytes).decoding.output out
@@ -44,7 +44,7 @@ module _ (p : Progress) (bytes out : List ℕ) (room : printed_each * length byt
 -- ---- decode_end
 
 module _ (p : Progress) (rest out : List ℕ) (room : printed_each ≤ length out) where
-  pub end-answer : end_answer p rest out ≡ Stepped (step_in (ending p rest) (length rest))
+  pub end-answer : end_answer p rest out ≡ Ok (step_in (ending p rest) (length rest))
   end-answer = sym (end-done p rest out room (step_in (ending p rest) (length rest)) refl)
 
   pub end-output : end_over p rest out ≡ put 0 (end_of p rest).output out

@@ -7,12 +7,13 @@ use native.Mathlib.Omega.{arith}
 use lib.ListN.{length}
 use borrow.Author.Tests.{ltb-true, ltb-false}
 use Rattle.tlp.specs.declared.settings.Settings.{Settings}
+use Rattle.tlp.specs.declared.refusal.Refusal.{Refusal}
+use Rattle.tlp.specs.declared.refusal.Refusal.TheVariants.{BadLine}
 use Rattle.capture_lines.specs.Lines.{text_most, over_long, complete_lines, unended}
 use Rattle.capture_print.specs.Outputs.{code_line}
-use Rattle.capture_print.specs.declared.LineAnswer.TheVariants.{Bad}
 use Rattle.capture_decode.specs.Decode.{Decoding, header_read, line_read, line_step, no_lines, tail_decoded, lines_decoded}
 use Rattle.capture.specs.declared.header.Header.{Header}
-use Rattle.std.specs.Prelude.{Option}
+use Rattle.std.specs.Prelude.{Option, Result, Ok, Err}
 use Rattle.std.specs.Prelude.{Some, None}
 use Rattle.capture_lines.proofs.LineLaws.{complete-le}
 use Rattle.capture_blocks.specs.Blocks.{Stepping, step_lines, step_header, step_first, step_skipping, step_from, step_of, end_of}
@@ -20,8 +21,6 @@ use Rattle.capture_blocks.specs.Answers.{step_in, has_room, answer_in, ending, s
 use Rattle.capture_blocks.specs.declared.Progress.{Progress}
 use Rattle.capture_blocks.specs.declared.Progress.TheVariants.{First, Lines, Skipping, Refused}
 use Rattle.capture_blocks.specs.declared.Step.{Step}
-use Rattle.capture_blocks.specs.declared.BlockAnswer.{BlockAnswer}
-use Rattle.capture_blocks.specs.declared.BlockAnswer.TheVariants.{Stepped}
 use Rattle.capture_blocks.proofs.LinesLaws.{refused-most}
 
 -- ---- lines decoded
@@ -54,7 +53,7 @@ module _ (size : ℕ) (tail : List ℕ) where
   unfolding step_lines over_long
   lines-by c texts true e h =
       let n = ltb-true text_most (length tail) e in
-      rw e (record { few = omega (arith, h, n, decoded-lines c texts (line_step Bad no_lines)); fewer = decoded-refused c texts (line_step Bad no_lines) (omega arith); short = omega arith; inside = omega arith })
+      rw e (record { few = omega (arith, h, n, decoded-lines c texts (line_step (Err BadLine) no_lines)); fewer = decoded-refused c texts (line_step (Err BadLine) no_lines) (omega arith); short = omega arith; inside = omega arith })
   lines-by c texts false e h =
       let n = ltb-false text_most (length tail) e in
       rw e (record { few = omega (arith, h, decoded-lines c texts no_lines); fewer = decoded-refused c texts no_lines (omega arith); short = omega (arith, n); inside = omega (arith, h) })
@@ -98,7 +97,7 @@ end-bounded Refused rest = no_lines_lem (length rest) 1 Refused []
 
 -- ---- the step of an answer
 
-stepped_by : (step : Step) (v : Stepping) (size : ℕ) (b : Bool) → Stepped step ≡ answer_in v size b → step ≡ step_in v size
+stepped_by : (step : Step) (v : Stepping) (size : ℕ) (b : Bool) → Ok step ≡ answer_in v size b → step ≡ step_in v size
 stepped_by step v size true e = cc
 stepped_by step v size false e = cc
 
@@ -113,7 +112,7 @@ module _ (step : Step) (size most : ℕ) (v : Stepping) (g : Bounded size most v
   refused-le = rw e g.fewer
 
 -- of decode_block
-module _ (p : Progress) (bytes out : List ℕ) (r : BlockAnswer) (d : r ≡ step_answer p bytes out) (step : Step) (u : r ≡ Stepped step) where
+module _ (p : Progress) (bytes out : List ℕ) (r : Result Step Refusal) (d : r ≡ step_answer p bytes out) (step : Step) (u : r ≡ Ok step) where
   pub block-step : step ≡ step_in (step_of p bytes) (length bytes)
   unfolding step_answer
   block-step = stepped_by step (step_of p bytes) (length bytes) (has_room (length bytes) out) (sym u ∙ d)
@@ -129,7 +128,7 @@ module _ (p : Progress) (bytes out : List ℕ) (r : BlockAnswer) (d : r ≡ step
   block_within = rw block-step (omega (arith, (step-bounded p bytes).few))
 
 -- of decode_end
-module _ (p : Progress) (rest out : List ℕ) (r : BlockAnswer) (d : r ≡ end_answer p rest out) (step : Step) (u : r ≡ Stepped step) where
+module _ (p : Progress) (rest out : List ℕ) (r : Result Step Refusal) (d : r ≡ end_answer p rest out) (step : Step) (u : r ≡ Ok step) where
   pub end_step : step ≡ step_in (ending p rest) (length rest)
   unfolding end_answer
   end_step = stepped_by step (ending p rest) (length rest) (has_room 1 out) (sym u ∙ d)

@@ -6,12 +6,12 @@ use mathlib.Core.List.{List, [], ◌∷◌, ◌++◌, append-nil}
 use native.Mathlib.Nat.{add-zero}
 use lib.ListN.{length}
 use Rattle.tlp.specs.declared.settings.Settings.{Settings}
+use Rattle.tlp.specs.declared.refusal.Refusal.TheVariants.{BadLine}
 use Rattle.capture_lines.specs.Lines.{complete_lines, unended, over_long}
 use Rattle.capture_print.specs.Outputs.{code_line}
-use Rattle.capture_print.specs.declared.LineAnswer.TheVariants.{Bad}
 use Rattle.capture_decode.specs.Decode.{Decoding, header_read, line_step, no_lines, tail_decoded, lines_decoded}
 use Rattle.capture.specs.declared.header.Header.{Header}
-use Rattle.std.specs.Prelude.{Option}
+use Rattle.std.specs.Prelude.{Option, Err}
 use Rattle.std.specs.Prelude.{Some, None}
 use Rattle.capture_lines.proofs.LineLaws.{Continued, open-still, ended, continued}
 use Rattle.capture_blocks.specs.Blocks.{Stepping, step_lines, step_header, step_first, step_skipping, step_from}
@@ -57,12 +57,12 @@ step_ahead stepping lines refused kept y =
 module _ (t y : List ℕ) where
   -- it is over-long: it gives one bad line, and the rest of it nothing
   pub over-long-ahead : (c : Settings) → over_long t ≡ true → Continued t y
-      → lines_ahead c (complete_lines (t ++ y)) (unended (t ++ y)) ≡ then (line_step Bad no_lines) (rest_ahead c (complete_lines y) (unended y))
+      → lines_ahead c (complete_lines (t ++ y)) (unended (t ++ y)) ≡ then (line_step (Err BadLine) no_lines) (rest_ahead c (complete_lines y) (unended y))
   unfolding lines_decoded rest_ahead
   over-long-ahead c h (open-still e f g) =
-      rw (e, f, g, over-long-tail t y h) (first_then Bad no_lines)
+      rw (e, f, g, over-long-tail t y h) (first_then (Err BadLine) no_lines)
   over-long-ahead c h (ended text texts e f g) =
-      rw (e, f, g, over-long-line t h c text) (first_then Bad (lines_ahead c texts (unended y)))
+      rw (e, f, g, over-long-line t h c text) (first_then (Err BadLine) (lines_ahead c texts (unended y)))
 
   pub over-long-first : (lines refused : ℕ) → over_long t ≡ true → Continued t y → first_ahead lines refused (complete_lines (t ++ y)) (unended (t ++ y)) ≡ code_line 11
   unfolding first_ahead
@@ -89,7 +89,7 @@ module _ (t y : List ℕ) (n : complete_lines t ≡ []) (kept : ℕ → List ℕ
   lines-by : (c : Settings) (texts : List (List ℕ)) (b : Bool) → over_long t ≡ b
       → ahead (Lines c) lines refused (texts ++ complete_lines (t ++ y)) (unended (t ++ y)) ≡ step_ahead (step_lines c texts t) lines refused kept y
   unfolding step_lines step_ahead bytes_ahead
-  lines-by c texts true h = rw (h, none) (lines-ahead c texts (line_step Bad no_lines) _ (over-long-ahead t y c h (continued t y n)))
+  lines-by c texts true h = rw (h, none) (lines-ahead c texts (line_step (Err BadLine) no_lines) _ (over-long-ahead t y c h (continued t y n)))
   lines-by c texts false h = rw (h, all) (lines-ahead c texts no_lines _ (sym (none_then _)))
 
   lines_step_lem : (c : Settings) (texts : List (List ℕ)) → ahead (Lines c) lines refused (texts ++ complete_lines (t ++ y)) (unended (t ++ y)) ≡ step_ahead (step_lines c texts t) lines refused kept y

@@ -3,6 +3,8 @@ use Prim.Native.Nat.{ℕ, ◌+◌, ◌-◌, ◌≤◌, ◌<◌}
 use mathlib.Core.Path.{◌≡◌, sym, ◌∙◌, ap}
 use mathlib.Core.Bool.{true, false}
 use mathlib.Core.Logic.{◌⊎◌, ⊎_elim, inl, inr}
+use Rattle.tlp.specs.Refusals.{number}
+use Rattle.tlp.specs.declared.refusal.Refusal.TheVariants.{BadLine}
 use Rattle.capture_blocks.specs.Inner.Steps.{silent_step, number_step}
 use mathlib.Core.List.{List, [], ◌++◌, append-nil}
 use native.Mathlib.Nat.{zero-add, sub-zero, sub_self}
@@ -18,13 +20,12 @@ use Rattle.tlp.specs.declared.settings.Settings.{Settings}
 use Rattle.capture_lines.specs.Lines.{text_most, over_long, complete_lines, unended, next_line}
 use Rattle.capture_print.specs.Outputs.{code_line, output_line}
 use Rattle.capture.specs.Headers.{header_line}
-use Rattle.capture_print.specs.declared.LineAnswer.TheVariants.{Bad}
 use Rattle.capture_decode.specs.Decode.{no_lines, line_step, header_read}
 use Rattle.capture_decode.specs.Printed.{printed_each}
 use Rattle.capture_lines.specs.declared.NextLine.{NextLine}
 use Rattle.capture_lines.specs.declared.NextLine.TheVariants.{Ended, OverLong, Unended}
 use Rattle.capture.specs.declared.header.Header.{Header}
-use Rattle.std.specs.Prelude.{Option, Some, None}
+use Rattle.std.specs.Prelude.{Option, Some, None, Err}
 use Rattle.capture_print.proofs.PrintLaws.{code-11, code-13}
 use Rattle.capture_lines.proofs.LineLaws.{unended-le, unended-all}
 use Rattle.capture_lines.proofs.NextLaws.{Complete, unended-line, ended-line, over-long-line}
@@ -69,9 +70,9 @@ module _ (c : Settings) (bytes : List ℕ) (from : ℕ) (out out1 : List ℕ) (t
     long-tail = lt-ltb text_most (length tail) (omega (arith, h, tail-size))
 
     -- the bad line behind what was decoded
-    decoded-long : step_lines c texts tail ≡ record { progress = Skipping c; decoding = then (decoded_from c bytes from) (line_step Bad no_lines); left = 0 }
+    decoded-long : step_lines c texts tail ≡ record { progress = Skipping c; decoding = then (decoded_from c bytes from) (line_step (Err BadLine) no_lines); left = 0 }
     unfolding step_lines decoded_from
-    decoded-long = rw (long-tail, ← lines_then c texts no_lines (line_step Bad no_lines), none_then (line_step Bad no_lines))
+    decoded-long = rw (long-tail, ← lines_then c texts no_lines (line_step (Err BadLine) no_lines), none_then (line_step (Err BadLine) no_lines))
 
     abbrev decoded : List ℕ
     decoded = (decoded_from c bytes from).output
@@ -86,25 +87,33 @@ module _ (c : Settings) (bytes : List ℕ) (from : ℕ) (out out1 : List ℕ) (t
     code_fits : length decoded + length (code_line 13) ≤ length out1
     code_fits = rw (o, length-put 0 decoded out decoded-fits) (omega (arith, room, h, done, code-13))
 
-    bad-output : output_line Bad ++ [] ≡ code_line 13
+    bad-output : output_line (Err BadLine) ++ [] ≡ code_line 13
     unfolding output_line
     bad-output = append-nil (code_line 13)
 
     all-output : (step_lines c texts tail).decoding.output ≡ decoded ++ code_line 13
     all-output = ap (λ (x : Stepping). x.decoding.output) decoded-long ∙ ap (λ (x : List ℕ). decoded ++ x) bad-output
 
-    pub lines-skipped : (w : ℕ) → w ≡ after t.written (code_line 13) out1
+    lines-skipped-13 : (w : ℕ) → w ≡ after t.written (code_line 13) out1
         → record { progress = Skipping c; used = length bytes; written = w; lines = t.lines + 1; refused = t.refused + 1 } ≡ step_in (step_lines c texts tail) (length bytes)
-    lines-skipped w k =
+    lines-skipped-13 w k =
         let n : w ≡ length (decoded ++ code_line 13) = k ∙ (rw (← done, after-fits (length decoded) (code_line 13) out1 code_fits) (sym (length-append decoded (code_line 13)))) in
         let x : t.lines ≡ (decoded_from c bytes from).lines = unfold lines_from in ap (λ (y : Step). y.lines) e in
         let y : t.refused ≡ (decoded_from c bytes from).refused = unfold lines_from in ap (λ (z : Step). z.refused) e in
-        let z : record { progress = Skipping c; used = length bytes; written = w; lines = t.lines + 1; refused = t.refused + 1 } ≡ step_in (record { progress = Skipping c; decoding = then (decoded_from c bytes from) (line_step Bad no_lines); left = 0 }) (length bytes) = rw (n, x, y, sub-zero (length bytes), bad-output) in
+        let z : record { progress = Skipping c; used = length bytes; written = w; lines = t.lines + 1; refused = t.refused + 1 } ≡ step_in (record { progress = Skipping c; decoding = then (decoded_from c bytes from) (line_step (Err BadLine) no_lines); left = 0 }) (length bytes) = rw (n, x, y, sub-zero (length bytes), bad-output) in
         z ∙ ap (λ (q : Stepping). step_in q (length bytes)) (sym decoded-long)
 
-    pub output-skipped : (out2 : List ℕ) → out2 ≡ laid t.written (code_line 13) out1 → out2 ≡ put 0 (step_lines c texts tail).decoding.output out
-    output-skipped out2 k =
+    output-skipped-13 : (out2 : List ℕ) → out2 ≡ laid t.written (code_line 13) out1 → out2 ≡ put 0 (step_lines c texts tail).decoding.output out
+    output-skipped-13 out2 k =
         k ∙ (rw (← done, laid-fits (length decoded) (code_line 13) out1 code_fits, o, all-output) (ap (λ (n : ℕ). put n (code_line 13) (put 0 decoded out)) (sym (zero-add (length decoded))) ∙ put_next 0 decoded (code_line 13) out decoded-fits))
+
+    module _ (n : ℕ) (is13 : n ≡ number BadLine) where
+      pub lines-skipped : (w : ℕ) → w ≡ after t.written (code_line n) out1
+          → record { progress = Skipping c; used = length bytes; written = w; lines = t.lines + 1; refused = t.refused + 1 } ≡ step_in (step_lines c texts tail) (length bytes)
+      lines-skipped w k = lines-skipped-13 w (rw is13 at k)
+
+      pub output-skipped : (out2 : List ℕ) → out2 ≡ laid t.written (code_line n) out1 → out2 ≡ put 0 (step_lines c texts tail).decoding.output out
+      output-skipped out2 k = output-skipped-13 out2 (rw is13 at k)
 
 pub ruleset step-lines-laws = (lines_left, output-left, lines-skipped, output-skipped)
 

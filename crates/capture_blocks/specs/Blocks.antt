@@ -1,16 +1,16 @@
 -- A capture that comes block by block. Each step is given the bytes that the steps before it left, with a block behind
 -- them. What a reader must believe: step_of, end_of and totals_of, of which decode_block, decode_end and put_totals_of
 -- speak; and run_blocks and joined, of which EveryCutting does.
-use Rattle.std.specs.Prelude.{ℕ, ◌+◌, ◌-◌, Bool, true, false, List, [], ◌∷◌, ◌++◌, length, drop}
+use Rattle.std.specs.Prelude.{ℕ, ◌+◌, ◌-◌, Bool, true, false, List, [], ◌∷◌, ◌++◌, length, drop, Err}
 use Rattle.bits.specs.Choice.{pick}
 use Rattle.tlp.specs.declared.settings.Settings.{Settings}
+use Rattle.tlp.specs.declared.refusal.Refusal.TheVariants.{BadLine}
 use Rattle.capture_lines.specs.Lines.{complete_lines, unended, over_long}
 use Rattle.capture_print.specs.Outputs.{code_line, totals_line}
 use Rattle.capture_decode.specs.Decode.{Decoding, line_step, no_lines, header_read, lines_decoded, tail_decoded}
 use Rattle.capture.specs.declared.header.Header.{Header}
 use Rattle.std.specs.Prelude.{Option}
 use Rattle.std.specs.Prelude.{Some, None}
-use Rattle.capture_print.specs.declared.LineAnswer.TheVariants.{Bad}
 use Rattle.capture_blocks.specs.declared.Progress.{Progress}
 use Rattle.capture_blocks.specs.declared.Progress.TheVariants.{First, Lines, Skipping, Refused}
 
@@ -25,7 +25,7 @@ pub record Stepping : Type 0 where
 unfoldable pub step_lines : Settings → List (List ℕ) → List ℕ → Stepping
 step_lines settings texts tail =
     pick (over_long tail)
-    (record { progress = Skipping settings; decoding = lines_decoded settings texts (line_step Bad no_lines); left = 0 })
+    (record { progress = Skipping settings; decoding = lines_decoded settings texts (line_step (Err BadLine) no_lines); left = 0 })
     (record { progress = Lines settings; decoding = lines_decoded settings texts no_lines; left = length tail })
 
 -- "only `code=11`", and nothing of what follows

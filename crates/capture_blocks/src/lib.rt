@@ -6,6 +6,7 @@ mod lines;
 ghost use Rattle.std.specs.Prelude.{◌≡◌, ◌-◌, ◌≤◌, length};
 ghost use Rattle.bits.specs.Put.{put};
 ghost use Rattle.text.specs.Laid.{laid, after};
+ghost use Rattle.tlp.specs.Refusals.{number};
 ghost use Rattle.capture_print.specs.Outputs.{code_line};
 ghost use Rattle.capture_blocks.specs.Blocks.{header_refused, step_of, end_of, totals_follow, totals_of};
 ghost use Rattle.capture_blocks.specs.Answers.{step_in, ending, step_answer, step_over, end_answer, end_over};
@@ -19,6 +20,7 @@ use capture_decode::PRINTED_EACH;
 use capture_lines::{NextLine, TEXT_MOST, next_line};
 use capture_print::{put_code, put_totals};
 use text::words::part;
+use tlp::refusal::Refusal;
 use tlp::settings::Settings;
 
 // How far a capture has been decoded.
@@ -45,13 +47,6 @@ pub struct Step {
     pub refused: usize,
 }
 
-#[derive(Clone, Copy)]
-pub enum BlockAnswer {
-    Stepped(Step),
-    // 12: there might not be room for what is printed.
-    Refused(u32),
-}
-
 // A step that prints nothing.
 fn silent(progress: Progress, used: usize) -> Step
     ensures { result ≡ silent_step progress used }
@@ -65,15 +60,21 @@ fn silent(progress: Progress, used: usize) -> Step
     }
 }
 
-// A step over all of bytes that prints a number alone, for so many lines.
-fn print_number(progress: Progress, bytes: &[u8], number: u32, lines: usize, out: &mut [u8]) -> Step
-    ensures answer { result ≡ number_step progress (length bytes.now) number lines out.old }
-    ensures output { out.new ≡ laid 0 (code_line number) out.old }
+// A step over all of bytes that prints a refusal's number alone, for so many lines.
+fn print_refusal(
+    progress: Progress,
+    bytes: &[u8],
+    refusal: Refusal,
+    lines: usize,
+    out: &mut [u8],
+) -> Step
+    ensures answer { result ≡ number_step progress (length bytes.now) (number refusal) lines out.old }
+    ensures output { out.new ≡ laid 0 (code_line (number refusal)) out.old }
 {
     Step {
         progress,
         used: bytes.len(),
-        written: put_code(number, 0, out),
+        written: put_code(refusal.number(), 0, out),
         lines,
         refused: lines,
     }
@@ -99,7 +100,7 @@ fn step_lines(
     Step {
         progress: Progress::Skipping(settings),
         used: bytes.len(),
-        written: put_code(13, step.written, out),
+        written: put_code(Refusal::BadLine.number(), step.written, out),
         lines: step.lines + 1,
         refused: step.refused + 1,
     }
@@ -112,7 +113,7 @@ fn refuse_header(bytes: &[u8], out: &mut [u8]) -> Step
     ensures answer { result ≡ step_in header_refused (length bytes.now) }
     ensures output { out.new ≡ printed_step header_refused out.old }
 {
-    print_number(Progress::Refused, bytes, 11, 0, out)
+    print_refusal(Progress::Refused, bytes, Refusal::BadSetting, 0, out)
 }
 
 // Line one, up to index end, and what follows it.
@@ -178,15 +179,15 @@ fn step_within(progress: Progress, bytes: &[u8], out: &mut [u8]) -> Step
 }
 
 // Decodes what is complete in bytes: what the step before left, with a block behind it. What is printed goes over the
-// front of out, which needs room for PRINTED_EACH bytes for each byte that is given; with less the number is 12.
-pub fn decode_block(progress: Progress, bytes: &[u8], out: &mut [u8]) -> BlockAnswer
+// front of out, which needs room for PRINTED_EACH bytes for each byte that is given; with less it is too short.
+pub fn decode_block(progress: Progress, bytes: &[u8], out: &mut [u8]) -> Result<Step, Refusal>
     ensures answer { result ≡ step_answer progress bytes.now out.old }
     ensures output { out.new ≡ step_over progress bytes.now out.old }
 {
     if out.len() / PRINTED_EACH < bytes.len() {
-        return BlockAnswer::Refused(12);
+        return Err(Refusal::OutputTooShort);
     }
-    BlockAnswer::Stepped(step_within(progress, bytes, out))
+    Ok(step_within(progress, bytes, out))
 }
 
 // The end of the input, where there is room.
@@ -196,12 +197,12 @@ fn end_within(progress: Progress, rest: &[u8], out: &mut [u8]) -> Step
     ensures output { out.new ≡ put 0 (end_of progress rest.now).output out.old }
 {
     match progress {
-        Progress::First => print_number(progress, rest, 11, 0, out),
+        Progress::First => print_refusal(progress, rest, Refusal::BadSetting, 0, out),
         Progress::Lines(_) => {
             if rest.is_empty() {
                 silent(progress, rest.len())
             } else {
-                print_number(progress, rest, 13, 1, out)
+                print_refusal(progress, rest, Refusal::BadLine, 1, out)
             }
         }
         Progress::Skipping(_) | Progress::Refused => silent(progress, rest.len()),
@@ -209,15 +210,15 @@ fn end_within(progress: Progress, rest: &[u8], out: &mut [u8]) -> Step
 }
 
 // Prints what the end of the input gives, before the totals; rest is what the last step left. With room for fewer than
-// PRINTED_EACH bytes the number is 12.
-pub fn decode_end(progress: Progress, rest: &[u8], out: &mut [u8]) -> BlockAnswer
+// PRINTED_EACH bytes it is too short.
+pub fn decode_end(progress: Progress, rest: &[u8], out: &mut [u8]) -> Result<Step, Refusal>
     ensures answer { result ≡ end_answer progress rest.now out.old }
     ensures output { out.new ≡ end_over progress rest.now out.old }
 {
     if out.len() < PRINTED_EACH {
-        return BlockAnswer::Refused(12);
+        return Err(Refusal::OutputTooShort);
     }
-    BlockAnswer::Stepped(end_within(progress, rest, out))
+    Ok(end_within(progress, rest, out))
 }
 
 #[tactic(auto, unfolding(crate::specs::Blocks::totals_follow))]

@@ -3,29 +3,20 @@ ghost use Rattle.std.specs.Prelude.{◌≡◌, ◌-◌, ◌≤◌, ◌<◌, leng
 ghost use Rattle.bits.specs.Put.{put};
 ghost use Rattle.text.specs.Laid.{laid};
 ghost use Rattle.capture_print.specs.Outputs.{output_line};
-ghost use Rattle.capture_decode.specs.Decode.{refused_count};
 ghost use Rattle.capture_blocks.specs.Inner.Rooms.{Room};
 ghost use Rattle.capture_blocks.specs.Inner.Lines.{printed_line, line_done, line_over, decoded_from, lines_from};
 
 use crate::{Progress, Step, silent};
 use capture_decode::{PRINTED_FRONT, packet_read};
 use capture_lines::{NextLine, TEXT_MOST, next_line};
-use capture_print::{LineAnswer, put_answer};
+use capture_print::put_answer;
 use text::words::part;
+use tlp::packet::Packet;
+use tlp::refusal::Refusal;
 use tlp::settings::Settings;
-use tlp_read::ReadAnswer;
 
 // The packet of the longest line has fewer bytes: two digits spell one.
 pub(crate) const SPACE: usize = TEXT_MOST / 2;
-
-fn refused_count(answer: LineAnswer) -> usize
-    ensures { result ≡ refused_count answer }
-{
-    match answer {
-        LineAnswer::Read(ReadAnswer::Accepted(_)) => 0,
-        LineAnswer::Read(ReadAnswer::Refused(_)) | LineAnswer::Bad | LineAnswer::Refused(_) => 1,
-    }
-}
 
 // A complete line: the index of the next line, the end of what was printed for it, and 1 where it is refused.
 #[derive(Clone, Copy)]
@@ -35,14 +26,19 @@ struct LineDone {
     refused: usize,
 }
 
-fn print_line(answer: LineAnswer, end: usize, at: usize, out: &mut [u8]) -> LineDone
+fn print_line(
+    answer: Result<Packet, Refusal>,
+    end: usize,
+    at: usize,
+    out: &mut [u8],
+) -> LineDone
     ensures answer { result ≡ printed_line answer end at out.old }
     ensures output { out.new ≡ laid at (output_line answer) out.old }
 {
     LineDone {
         end,
         written: put_answer(answer, at, out),
-        refused: refused_count(answer),
+        refused: usize::from(answer.is_err()),
     }
 }
 
@@ -63,7 +59,7 @@ fn line_at(
 {
     match next_line(bytes, place) {
         NextLine::Unended { .. } => None,
-        NextLine::OverLong { end } => Some(print_line(LineAnswer::Bad, end, at, out)),
+        NextLine::OverLong { end } => Some(print_line(Err(Refusal::BadLine), end, at, out)),
         NextLine::Ended { end } => {
             let text = part(bytes, place, end - 1);
             let answer = packet_read(settings, text, PRINTED_FRONT, space);

@@ -5,7 +5,7 @@ use Rattle.capture_blocks.proofs.end_within.Goals as goal
 pub returns-in-First : goal.returns-in-First
 returns-in-First c =
     let z = first-end c.args.progress c.args.rest.now c.args.out.now c.in-First.is in
-    let n = c.print_number.ensures in
+    let n = c.print_refusal.ensures in
     record { answer = end-number _ _ c.args.out.now c.requires 11 code-11 0 z _ n.answer; output = end-number-output _ c.args.rest.now _ c.requires 11 code-11 0 z _ n.output }
 
 pub returns-then-is_empty : goal.returns-then-is_empty
@@ -16,7 +16,7 @@ returns-then-is_empty c =
 pub returns-else-is_empty : goal.returns-else-is_empty
 returns-else-is_empty c =
     let z = unended-end c.args.progress c.args.rest.now c.args.out.now _ c.in-Lines.is c.is_empty.result c.is_empty.ensures c.if-is_empty.false in
-    let n = c.print_number-else-is_empty.ensures in
+    let n = c.print_refusal-else-is_empty.ensures in
     record { answer = end-number _ _ c.args.out.now c.requires 13 code-13 1 z _ n.answer; output = end-number-output _ c.args.rest.now _ c.requires 13 code-13 1 z _ n.output }
 
 pub returns-in-Skipping : goal.returns-in-Skipping

@@ -1,18 +1,19 @@
 -- For the contracts of lines.rt: print_line, line_at and decode_lines.
-use Rattle.std.specs.Prelude.{ℕ, suc, ◌+◌, ◌-◌, List, [], ◌∷◌, length, drop, Option, Some, None}
+use Rattle.std.specs.Prelude.{ℕ, suc, ◌+◌, ◌-◌, List, [], ◌∷◌, length, drop, Option, Some, None, Result}
 use Rattle.bits.specs.Put.{put}
 use Rattle.text.specs.Laid.{after}
 use Rattle.tlp.specs.declared.settings.Settings.{Settings}
+use Rattle.tlp.specs.declared.refusal.Refusal.{Refusal}
+use Rattle.tlp.specs.declared.packet.Packet.{Packet}
 use Rattle.capture_lines.specs.Lines.{complete_lines, unended}
 use Rattle.capture_print.specs.Outputs.{output_line}
-use Rattle.capture_print.specs.declared.LineAnswer.{LineAnswer}
 use Rattle.capture_decode.specs.Decode.{Decoding, no_lines, line_read, refused_count, lines_decoded}
 use Rattle.capture_blocks.specs.declared.lines.LineDone.{LineDone}
 use Rattle.capture_blocks.specs.declared.Progress.TheVariants.{Lines}
 use Rattle.capture_blocks.specs.declared.Step.{Step}
 
 -- a line that ends before index end, and what it gave printed from index at on
-abbrev pub printed_line : LineAnswer → ℕ → ℕ → List ℕ → LineDone
+abbrev pub printed_line : Result Packet Refusal → ℕ → ℕ → List ℕ → LineDone
 printed_line answer end at out =
     record { end = end; written = after at (output_line answer) out; refused = refused_count answer }
 

@@ -34,7 +34,7 @@ printed_step stepping out = put 0 stepping.decoding.output out
 abbrev pub silent_step : Progress → ℕ → Step
 silent_step progress used = record { progress = progress; used = used; written = 0; lines = 0; refused = 0 }
 
--- of print_number: over so many bytes, a number alone, for so many lines
+-- of print_refusal: over so many bytes, a number alone, for so many lines
 abbrev pub number_step : Progress → ℕ → ℕ → ℕ → List ℕ → Step
 number_step progress size number lines out =
     record { progress = progress; used = size; written = after 0 (code_line number) out; lines = lines; refused = lines }
