@@ -2,7 +2,7 @@
 use Rattle.std.proofs.Common.{◌≡◌, ℕ, zero, suc, ◌+◌, ◌-◌, ◌*◌, ◌/◌, ◌%◌, ◌^◌, ◌<◌, ◌≤◌, Bool, true, false, not, ◌&&◌, eqb, ltb, leb, List, [], ◌∷◌, ◌++◌, length, get_or, drop, set, sym, refl, ap, ◌∙◌, le_trans, le_refl, lt_of_lt_of_le, mod-lt, mod-eq_of_lt, div-lt_iff_lt-mul, mul-le-mul_left, pow-suc, div-le_self, add-one, arith, length-append, drop_of_length-le, drop-cons, ltb-false, ltb-true, le-ltb, lt-ltb, le-leb, Option, Some, None}
 use mathlib.Core.Bool.{and-false}
 use native.Mathlib.Nat.{add-sub_cancel_left, div-lt_self, pow-zero, pow-le-pow_left, pow-le-pow_right}
-use borrow.Author.Tests.{lt-leb, not-true, not-false}
+use borrow.Author.Tests.{lt-leb}
 use Rattle.bits.specs.Choice.{pick}
 use Rattle.text.specs.Digit.{hex_value, hex_digit, all_digits}
 use Rattle.bits.specs.Put.{put}
@@ -26,13 +26,13 @@ plain-first (b ∷ []) d h e = absurd (omega arith)
 plain-first (b ∷ c ∷ text) d h e = rw e
 
 module _ (text : List ℕ) (p : Option ℕ) (r : Bool) (e : r ≡ plain text) where
-  pub plain-no : not r ≡ true → None ≡ plainly text p
+  pub plain-no : r ≡ false → None ≡ plainly text p
   unfolding plainly
-  plain-no h = rw (← e, not-true r h)
+  plain-no h = rw (← e, h)
 
-  pub plain-yes : (q : Option ℕ) → not r ≡ false → q ≡ p → q ≡ plainly text p
+  pub plain-yes : (q : Option ℕ) → r ≡ true → q ≡ p → q ≡ plainly text p
   unfolding plainly
-  plain-yes q h f = rw (← e, not-false r h) f
+  plain-yes q h f = rw (← e, h) f
 
 pub ruleset plain-laws = (plain-short, plain-first, plain-no, plain-yes)
 

@@ -2,6 +2,7 @@
 use Rattle.std.proofs.Common.{◌≡◌, ℕ, suc, ◌+◌, ◌-◌, ◌<◌, ◌≤◌, min, Bool, true, false, not, ◌&&◌, eqb, leb, List, [], ◌∷◌, length, get_or, take, drop, sym, refl, ◌∙◌, ⊎_elim, le_of_eq, add-zero, sub-eq-zero_of_le, add-one, arith, length-drop, drop_of_length-le, take_all, drop-cons, eq-eqb, ne_eqb, le-leb, leb-true, Some, None}
 use mathlib.Core.Bool.{and-false, false≢true}
 use lib.Seq.{take-nil}
+use lib.Pointwise.{pointwise}
 use borrow.Author.Tests.{lt-leb, not-true, not-false}
 use Rattle.text.specs.Words.{word_length, word_end, begins_with, starts_with, value_at}
 use Rattle.text.proofs.Order.{lt-or-le, and_left, and_right}
@@ -72,32 +73,24 @@ key-long [] text h = absurd (omega arith)
 key-long (k ∷ key) [] h = refl
 key-long (k ∷ key) (b ∷ text) h = rw (← key-long key text (omega arith), and-false (eqb b k))
 
-module _ (key text : List ℕ) (i : ℕ) (t : Bool) (q : begins_with (drop i key) (drop i text) ≡ t) where
-  pub key-done : length key ≤ i → true ≡ t
-  unfolding begins_with
-  key-done h = rw (drop_of_length-le key h) at q
+eqb-turn : (a b : ℕ) → eqb a b ≡ eqb b a
+eqb-turn a b = ⊎_elim (λ (h : a < b). ne_eqb a b (λ e. omega arith) ∙ sym (ne_eqb b a (λ e. omega arith))) (λ (h : b ≤ a). ⊎_elim (λ (l : b < a). ne_eqb a b (λ e. omega arith) ∙ sym (ne_eqb b a (λ e. omega arith))) (λ (l : a ≤ b). let e : a ≡ b = omega arith in rw e) (lt-or-le b a)) (lt-or-le a b)
 
-  module _ (h : i < length key) (l : length key ≤ length text) where
-    first : begins_with (drop i key) (drop i text) ≡ (eqb (get_or text i 0) (get_or key i 0) && begins_with (drop (i + 1) key) (drop (i + 1) text))
-    unfolding begins_with
-    first = rw (drop-cons key i 0 h, drop-cons text i 0 (omega arith), add-one i)
-
-    pub key-differs : (get_or text i 0 ≡ get_or key i 0 → ⊥) → false ≡ t
-    key-differs e = rw (first, ne_eqb (get_or text i 0) (get_or key i 0) e) at q
-
-    pub key-next : get_or text i 0 ≡ get_or key i 0 → begins_with (drop (i + 1) key) (drop (i + 1) text) ≡ t
-    key-next e = rw (first, eq-eqb (get_or text i 0) (get_or key i 0) e) at q
-
-pub ruleset key_laws = (key-long, key-done, key-differs, key-next)
+-- as the library tests it
+begins-std : (key text : List ℕ) → pointwise eqb key (take (length key) text) ≡ begins_with key text
+unfolding begins_with
+begins-std [] text = refl
+begins-std (k ∷ key) [] = refl
+begins-std (k ∷ key) (b ∷ text) = rw (eqb-turn k b, begins-std key text)
 
 module _ (text key : List ℕ) (at : ℕ) where
-  pub starts-past : length text < at → false ≡ starts_with text at key
+  pub starts-past : length text < at → leb at (length text) ≡ starts_with text at key
   unfolding starts_with
   starts-past h = rw (lt-leb at (length text) h)
 
-  pub starts-here : (r : Bool) → at ≤ length text → r ≡ begins_with key (take (length text - at) (drop at text)) → r ≡ starts_with text at key
+  pub starts-here : (r : Bool) → at ≤ length text → r ≡ pointwise eqb key (take (length key) (take (length text - at) (drop at text))) → r ≡ starts_with text at key
   unfolding starts_with
-  starts-here r h e = rw (le-leb at (length text) h) (rw (take_all (length text - at) (drop at text) (le_of_eq (length-drop at text))) at e)
+  starts-here r h e = rw (le-leb at (length text) h) (rw (take_all (length text - at) (drop at text) (le_of_eq (length-drop at text)), begins-std key (drop at text)) at e)
 
 pub ruleset starts-laws = (starts-past, starts-here)
 

@@ -9,10 +9,11 @@ use crate::number::{is_plain, number_in, put_plain};
 pub fn decimal(text: &[u8], most: u64) -> Option<u64>
     ensures { result ≡ decimal_number most text.now }
 {
-    if !is_plain(text) {
-        return None;
+    if is_plain(text) {
+        number_in(text, 10, most)
+    } else {
+        None
     }
-    number_in(text, 10, most)
 }
 
 // The digits of n, laid into out from index at on, and the index after them;

@@ -1,5 +1,5 @@
 // Hexadecimal in lower case: digits, numbers and bytes.
-ghost use Rattle.std.specs.Prelude.{◌≡◌, ◌+◌, ◌*◌, ◌/◌, ◌%◌, ◌<◌, ◌≤◌, min, true, length, take, slice_index};
+ghost use Rattle.std.specs.Prelude.{◌≡◌, ◌+◌, ◌*◌, ◌/◌, ◌%◌, ◌<◌, ◌≤◌, true, length, take, slice_index};
 ghost use Rattle.text.specs.Digit.{hex_value, hex_digit, all_digits};
 ghost use Rattle.bits.specs.Put.{put};
 ghost use Rattle.text.specs.Laid.{laid, after};
@@ -9,17 +9,6 @@ ghost use Rattle.text.specs.Hex.{pairs, bytes_spelled, spelled_answer, spelled_o
 
 use crate::number::{MOST_64, is_plain, number_in, put_digits, put_plain};
 use crate::output::room;
-use bits::choice::lesser;
-use std::num::wrapping_sub_u8;
-
-fn least(a: u8, b: u8) -> u8
-    ensures { result ≡ min a b }
-{
-    if a < b {
-        return a;
-    }
-    b
-}
 
 // The value of a digit, 16 for a byte that is none. No other function looks at letters.
 // What stands below the first letter wraps around to above the last:
@@ -27,12 +16,9 @@ fn least(a: u8, b: u8) -> u8
 pub fn hex_value(b: u8) -> u8
     ensures { result ≡ hex_value b }
 {
-    let letter = 10 + least(wrapping_sub_u8(b, b'a'), 6);
-    let number = wrapping_sub_u8(b, b'0');
-    if number < 10 {
-        return number;
-    }
-    letter
+    let letter = 10 + b.wrapping_sub(b'a').min(6);
+    let number = b.wrapping_sub(b'0');
+    if number < 10 { number } else { letter }
 }
 
 // The digit of n % 16, as its letter.
@@ -40,42 +26,38 @@ pub fn hex_digit(n: u8) -> u8
     ensures { result ≡ hex_digit n }
 {
     let d = n % 16;
-    if d < 10 {
-        return b'0' + d;
-    }
-    b'a' + (d - 10)
+    if d < 10 { b'0' + d } else { b'a' + (d - 10) }
 }
 
 // The number that 1 to 16 digits spell.
 pub fn hex_number(text: &[u8]) -> Option<u64>
     ensures { result ≡ hex_number text.now }
 {
-    if 16 < text.len() {
-        return None;
+    if text.len() <= 16 {
+        number_in(text, 16, MOST_64)
+    } else {
+        None
     }
-    number_in(text, 16, MOST_64)
 }
 
 // The same without leading zeros.
 pub fn hex_plain(text: &[u8]) -> Option<u64>
     ensures { result ≡ hex_plain text.now }
 {
-    if !is_plain(text) {
-        return None;
+    if is_plain(text) {
+        hex_number(text)
+    } else {
+        None
     }
-    hex_number(text)
 }
 
 // Whether every byte is a digit. It looks at all of them, with no early answer, so that it looks at many at once.
 pub fn hex_only(text: &[u8]) -> bool
     ensures { result ≡ all_digits 16 text.now }
 {
-    // good says whether the bytes before index i are digits.
     let mut good = true;
-    let mut i: usize = 0;
-    while i < text.len() {
-        good = good & (hex_value(text[i]) < 16);
-        i += 1;
+    for b in text {
+        good &= hex_value(*b) < 16;
     }
     good
 }
@@ -99,11 +81,9 @@ fn lay_bytes(text: &[u8], n: usize, out: &mut [u8])
     requires { (2 * n ≤ length text.now) × ((n ≤ length out.old) × (all_digits 16 text.now ≡ true)) }
     ensures { out.new ≡ put 0 (take n (pairs text.now)) out.old }
 {
-    let mut i: usize = 0;
-    while i < n {
+    for i in 0..n {
         let pair = pair_at(text, 2 * i);
         out[i] = hex_value((pair % 256) as u8) * 16 + hex_value((pair / 256) as u8);
-        i += 1;
     }
 }
 
@@ -113,13 +93,10 @@ pub fn hex_front(text: &[u8], most: usize, out: &mut [u8]) -> Option<usize>
     ensures value { result ≡ front_answer most (bytes_spelled text.now) out.old }
     ensures out_after { out.new ≡ front_over most (bytes_spelled text.now) out.old }
 {
-    if text.len() % 2 != 0 {
+    if text.len() % 2 != 0 || !hex_only(text) {
         return None;
     }
-    if !hex_only(text) {
-        return None;
-    }
-    let n = lesser(most, text.len() / 2);
+    let n = most.min(text.len() / 2);
     if out.len() < n {
         return None;
     }
@@ -140,15 +117,12 @@ fn lay_hex(bytes: &[u8], at: usize, out: &mut [u8]) -> usize
     ensures value { result ≡ at + 2 * length bytes.now }
     ensures out_after { out.new ≡ put at (hex_text bytes.now) out.old }
 {
-    // The digits of byte i go to index to.
-    let mut i: usize = 0;
+    // The digits of byte b go to index to.
     let mut to = at;
-    while i < bytes.len() {
-        let b = bytes[i];
-        out[to] = hex_digit(b / 16);
-        out[to + 1] = hex_digit(b);
+    for b in bytes {
+        out[to] = hex_digit(*b / 16);
+        out[to + 1] = hex_digit(*b);
         to += 2;
-        i += 1;
     }
     to
 }

@@ -8,20 +8,17 @@ use crate::hex::{hex_digit, hex_value};
 use crate::output::room;
 
 // The most that 8, 32 and 64 bits hold.
-pub const MOST_8: u64 = 255;
+pub const MOST_8: u64 = u8::MAX as u64;
 
-pub const MOST_32: u64 = 4294967295;
+pub const MOST_32: u64 = u32::MAX as u64;
 
-pub const MOST_64: u64 = 18446744073709551615;
+pub const MOST_64: u64 = u64::MAX;
 
 // Whether a text has no leading zero.
 pub(crate) fn is_plain(text: &[u8]) -> bool
     ensures { result ≡ plain text.now }
 {
-    if text.len() < 2 {
-        return true;
-    }
-    hex_value(text[0]) != 0
+    text.len() < 2 || hex_value(text[0]) != 0
 }
 
 // Whether v with the digit d after it is above most, for numbers of any size.
@@ -29,10 +26,7 @@ fn exceeds(v: u64, base: u64, d: u64, most: u64) -> bool
     requires { 0 < base }
     ensures { result ≡ nat_lt most (v * base + d) }
 {
-    if most < d {
-        return true;
-    }
-    (most - d) / base < v
+    most < d || (most - d) / base < v
 }
 
 // The number that a text spells in a base, where it is not above most.
@@ -43,19 +37,14 @@ pub(crate) fn number_in(text: &[u8], base: u64, most: u64) -> Option<u64>
     if text.len() == 0 {
         return None;
     }
-    // v is what the digits before index i spell.
+    // v is what the digits before spell.
     let mut v: u64 = 0;
-    let mut i: usize = 0;
-    while i < text.len() {
-        let d = hex_value(text[i]) as u64;
-        if base <= d {
-            return None;
-        }
-        if exceeds(v, base, d, most) {
+    for b in text {
+        let d = hex_value(*b) as u64;
+        if base <= d || exceeds(v, base, d, most) {
             return None;
         }
         v = v * base + d;
-        i += 1;
     }
     Some(v)
 }

@@ -1,29 +1,12 @@
 // Text laid into an output, where it fits.
-ghost use Rattle.std.specs.Prelude.{◌≡◌, ◌+◌, ◌≤◌, length, nat_le};
-ghost use Rattle.bits.specs.Put.{put};
+ghost use Rattle.std.specs.Prelude.{◌≡◌, ◌+◌, nat_le};
 ghost use Rattle.text.specs.Laid.{laid, after};
 
 // Whether n bytes from index at on fit into len, for sums of any size.
 pub(crate) fn room(at: usize, n: usize, len: usize) -> bool
     ensures { result ≡ nat_le (at + n) len }
 {
-    if len < at {
-        return false;
-    }
-    n <= len - at
-}
-
-fn lay_text(text: &[u8], at: usize, out: &mut [u8]) -> usize
-    requires { at + length text.now ≤ length out.old }
-    ensures value { result ≡ at + length text.now }
-    ensures out_after { out.new ≡ put at text.now out.old }
-{
-    let mut i: usize = 0;
-    while i < text.len() {
-        out[at + i] = text[i];
-        i += 1;
-    }
-    at + i
+    at <= len && n <= len - at
 }
 
 // The bytes of a text, laid into out from index at on, and the index after them;
@@ -35,5 +18,7 @@ pub fn put_text(text: &[u8], at: usize, out: &mut [u8]) -> usize
     if !room(at, text.len(), out.len()) {
         return at;
     }
-    lay_text(text, at, out)
+    let end = at + text.len();
+    out[at..end].copy_from_slice(text);
+    end
 }

@@ -1,47 +1,26 @@
 // Words with one space between them, and the values of their keys.
 ghost use Rattle.std.specs.Prelude.{◌≡◌, ◌+◌, ◌≤◌, true, length};
-ghost use Rattle.text.specs.Words.{part, begins_with, starts_with, word_end, value_at};
-
-use bits::choice::lesser;
+ghost use Rattle.text.specs.Words.{part, starts_with, word_end, value_at};
 
 // The bytes from index from up to index to, as far as there are any.
 pub fn part<'a>(bytes: &'a [u8], from: usize, to: usize) -> &'a [u8]
     ensures { result.now ≡ part bytes.now from to }
 {
-    let e = lesser(to, bytes.len());
-    let a = lesser(from, e);
-    &bytes[a..e]
+    let end = to.min(bytes.len());
+    &bytes[from.min(end)..end]
 }
 
 // The index of the first space from index at on, or the end.
 pub fn word_end(line: &[u8], at: usize) -> usize
     ensures { result ≡ word_end line.now at }
 {
-    let mut i = lesser(at, line.len());
-    while i < line.len() {
+    let from = at.min(line.len());
+    for i in from..line.len() {
         if line[i] == b' ' {
             return i;
         }
-        i += 1;
     }
-    i
-}
-
-// Whether a text begins with key.
-fn begins_with(text: &[u8], key: &[u8]) -> bool
-    ensures { result ≡ begins_with key.now text.now }
-{
-    if text.len() < key.len() {
-        return false;
-    }
-    let mut i: usize = 0;
-    while i < key.len() {
-        if text[i] != key[i] {
-            return false;
-        }
-        i += 1;
-    }
-    true
+    line.len()
 }
 
 // Whether key stands in a line from index at on.
@@ -49,10 +28,7 @@ pub fn starts_with(line: &[u8], at: usize, key: &[u8]) -> bool
     ensures value { result ≡ starts_with line.now at key.now }
     ensures within { result ≡ true → at + length key.now ≤ length line.now }
 {
-    if line.len() < at {
-        return false;
-    }
-    begins_with(&line[at..], key)
+    at <= line.len() && line[at..].starts_with(key)
 }
 
 // The place of a key's value: from index from up to index to.

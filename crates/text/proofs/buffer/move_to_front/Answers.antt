@@ -1,12 +1,5 @@
-use Rattle.text.proofs.BufferLaws.{move-laws}
-use Rattle.std.proofs.Common.{arith, length-set, rules}
+use Rattle.text.proofs.BufferLaws.{moved}
 use Rattle.text.proofs.buffer.move_to_front.Goals as goal
 
-pub loop-k-init : goal.loop-k-init
-loop-k-init c = (search rules, search move-laws)
-
-pub loop-k-preserved : goal.loop-k-preserved
-loop-k-preserved c = (simp length-set (omega arith), search move-laws)
-
 pub returns : goal.returns
-returns c = search move-laws
+returns c = moved c.args.from c.args.to c.min-end.result c.min.result c.args.buf.now _ c.min-end.ensures c.min.ensures c.copy_within.ensures.after

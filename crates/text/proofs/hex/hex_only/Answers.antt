@@ -1,9 +1,8 @@
 use Rattle.text.proofs.DigitLaws.{scan-laws}
-use Rattle.std.proofs.Common.{rules}
 use Rattle.text.proofs.hex.hex_only.Goals as goal
 
-pub loop-i-preserved : goal.loop-i-preserved
-loop-i-preserved c = (search rules, search scan-laws)
+pub loop-b-preserved : goal.loop-b-preserved
+loop-b-preserved c = search scan-laws
 
 pub returns : goal.returns
 returns c = search scan-laws

@@ -1,12 +1,8 @@
-use Rattle.std.proofs.Common.{◌≡◌, ap, not, rules}
-use Rattle.text.specs.Words.{starts_with}
-use Rattle.text.proofs.WordLaws.{starts-laws, starts-le}
+use Rattle.text.proofs.WordLaws.{starts-past, starts-here}
 use Rattle.text.proofs.words.starts_with.Goals as goal
 
-pub returns-then-line-at : goal.returns-then-line-at
-returns-then-line-at c = record { value = search starts-laws; within = search rules }
+pub returns-then-at-line-clause-value : goal.returns-then-at-line-clause-value
+returns-then-at-line-clause-value c = starts-here _ _ _ _ c.if-at-line.true c.starts_with.ensures.value
 
-pub returns : goal.returns
-returns c =
-    let e : c.begins_with.result ≡ starts_with c.args.line.now c.args.at c.args.key.now = search starts-laws in
-    record { value = e; within = λ h. starts-le _ _ _ _ e (ap not h) }
+pub returns-else-at-line-clause-value : goal.returns-else-at-line-clause-value
+returns-else-at-line-clause-value c = starts-past _ _ _ c.if-at-line.false
