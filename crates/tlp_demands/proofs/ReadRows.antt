@@ -7,6 +7,8 @@ use lib.Dec.{eqb, ltb}
 use lib.ListN.{length}
 use borrow.Author.Tests.{ltb-false, eqb-true, not-false}
 use Rattle.bits.specs.Word.{byte}
+use Rattle.std.specs.Prelude.{Ok}
+use Rattle.tlp.specs.Refusals.{answered}
 use Rattle.tlp.specs.Rows.{row, first, NoneHold}
 use Rattle.tlp.specs.Settings.{settings_listed}
 use Rattle.tlp.specs.PacketTypes.{type_at, header_dw, family_of, is_unlisted}
@@ -16,8 +18,7 @@ use Rattle.tlp.specs.declared.settings.Settings.{Settings}
 use Rattle.tlp.specs.declared.packet.Packet.{Packet}
 use Rattle.tlp.specs.declared.packet_type.PacketType.{PacketType}
 use Rattle.tlp_read.specs.Fields.{address_type_at, packet_at}
-use Rattle.tlp_read.specs.Read.{read_packet, read_rows, answer_of, hint_or_address_type_set, routing_bad, form_bad}
-use Rattle.tlp_read.specs.declared.ReadAnswer.TheVariants.{Accepted}
+use Rattle.tlp_read.specs.Read.{read_packet, read_rows, hint_or_address_type_set, routing_bad, form_bad}
 use Rattle.tlp.proofs.RowLaws.{first-none, none-split}
 
 -- bytes of type t in which no row of the reader's table holds
@@ -33,7 +34,7 @@ pub record Sound (c : Settings) (t : PacketType) (s : List ℕ) : Type 0 where
   pub routing : routing_bad t s ≡ false
   pub form : form_bad t s ≡ false
 
-answer-none : (n : ℕ) (q p : Packet) → answer_of n q ≡ Accepted p → (n ≡ 0) × (q ≡ p)
+answer-none : (n : ℕ) (q p : Packet) → answered n q ≡ Ok p → (n ≡ 0) × (q ≡ p)
 answer-none zero q p e = (refl, cc)
 answer-none (suc n) q p e = (cc, cc)
 
@@ -55,7 +56,7 @@ none-sound c s n =
       form = last.1.1.0;
     }
 
-pub accepted : (c : Settings) (s : List ℕ) (p : Packet) → read_packet c s ≡ Accepted p
+pub accepted : (c : Settings) (s : List ℕ) (p : Packet) → read_packet c s ≡ Ok p
     → Sound c (type_at (byte s 0)) s × (packet_at (type_at (byte s 0)) s ≡ p)
 unfolding read_packet
 accepted c s p e =

@@ -13,6 +13,7 @@ use Rattle.bits.specs.Field.{low}
 use Rattle.bits.specs.Word.{byte, word, bytes, Bytes}
 use Rattle.bits.proofs.WordLaws.{bytes_word, bytes_drop}
 use Rattle.byte_enables.specs.declared.Access.{Access}
+use Rattle.std.specs.Prelude.{Ok}
 use Rattle.tlp.specs.PacketTypes.{type_at, header_dw, family_of, is_io_or_config}
 use Rattle.tlp.specs.Rows.{row, NoneHold}
 use Rattle.tlp.specs.Packets.{access_of}
@@ -25,11 +26,9 @@ use Rattle.tlp.specs.declared.packet_type.PacketType.{PacketType}
 use Rattle.tlp.specs.declared.packet_type.Family.{Family}
 use Rattle.tlp_read.specs.Fields.{packet_at, digest_word}
 use Rattle.tlp_read.specs.Read.{read_packet, payload_of}
-use Rattle.tlp_read.specs.declared.ReadAnswer.TheVariants.{Accepted}
 use Rattle.tlp_write.specs.Layout.{digest_of, bytes_of, size_of}
 use Rattle.tlp_write.specs.Write.{write_rows, write_packet}
 use Rattle.tlp_writable.specs.Given.{given_rows}
-use Rattle.tlp_write.specs.declared.WriteAnswer.TheVariants.{Written}
 use Rattle.tlp.proofs.RowLaws.{none_first, none-join}
 use Rattle.tlp_demands.proofs.ReadRows.{Sound, accepted}
 use Rattle.tlp_demands.proofs.ReadMasks.{masked-under}
@@ -103,12 +102,12 @@ module _ (c : Settings) (s : List ℕ) (small : Bytes s) (t : PacketType) (o : S
             (rw (eq-eqb n n refl), none-join content last content-none (le-ltb room (length s) h, tt)),
       )
 
-  same_answer : (room : ℕ) → length s ≤ room → write_packet c (packet_at t s) (length (payload_of (packet_at t s) s)) room ≡ Written (length s)
+  same_answer : (room : ℕ) → length s ≤ room → write_packet c (packet_at t s) (length (payload_of (packet_at t s) s)) room ≡ Ok (length s)
   unfolding write_packet
   same_answer room h = rw (none_first (write_rows c (packet_at t s) (length (payload_of (packet_at t s) s)) room) (write-none room h), size_is)
 
-pub read-written : (c : Settings) (s : List ℕ) (p : Packet) (room : ℕ) → Bytes s → read_packet c s ≡ Accepted p → length s ≤ room
-    → (write_packet c p (length (payload_of p s)) room ≡ Written (length s)) × (bytes_of p (payload_of p s) ≡ clear_reserved s)
+pub read-written : (c : Settings) (s : List ℕ) (p : Packet) (room : ℕ) → Bytes s → read_packet c s ≡ Ok p → length s ≤ room
+    → (write_packet c p (length (payload_of p s)) room ≡ Ok (length s)) × (bytes_of p (payload_of p s) ≡ clear_reserved s)
 read-written c s p room small e h =
     let a = accepted c s p e in
     rw (← a.1) (same_answer c s small (type_at (byte s 0)) a.0 room h, same_bytes c s small (type_at (byte s 0)) a.0)

@@ -8,6 +8,7 @@ use native.Mathlib.Omega.{arith}
 use lib.ListN.{length, drop}
 use Rattle.bits.specs.Choice.{pick}
 use Rattle.bits.specs.Word.{byte, word}
+use Rattle.tlp.specs.Refusals.{answered}
 use Rattle.tlp.specs.PacketTypes.{type_at}
 use Rattle.tlp.specs.Rows.{first}
 use Rattle.tlp.specs.Packets.{access_of}
@@ -19,7 +20,7 @@ use Rattle.tlp.specs.declared.packet.Packet.{Packet}
 use Rattle.tlp.specs.declared.packet_type.PacketType.{PacketType}
 use Rattle.tlp.specs.declared.packet_type.PacketType.TheVariants.{MRd32, MRd64, MWr32, MWr64, IORd, IOWr, CfgRd0, CfgWr0, CfgRd1, CfgWr1, Msg, MsgD, Cpl, CplD, Unlisted}
 use Rattle.tlp_read.specs.Fields.{packet_at, attributes_at, digest_word, route_at, kind_at, request_at, config_at, message_at, completion_at, message_route_at}
-use Rattle.tlp_read.specs.Read.{judge_rows, read_rows, answer_of, read_packet, hint_or_address_type_set, routing_bad, form_bad}
+use Rattle.tlp_read.specs.Read.{judge_rows, read_rows, read_packet, hint_or_address_type_set, routing_bad, form_bad}
 use Rattle.tlp_demands.specs.RoundTrips.{ReservedIgnored}
 use Rattle.tlp_demands.proofs.ReadRows.{accepted}
 use Rattle.tlp_demands.proofs.ReadTypes.{masks-length}
@@ -60,7 +61,7 @@ digest-same true {ms} {s} u d e = rw (u.size, drop-kept u (length s - 4) (omega 
 digest-same false u d e = refl
 
 -- answers with one number are alike; the packets matter where it is 0
-answers : (m n : ℕ) (p q : Packet) → m ≡ n → (n ≡ 0 → p ≡ q) → answer_of m p ≡ answer_of n q
+answers : (m n : ℕ) (p q : Packet) → m ≡ n → (n ≡ 0 → p ≡ q) → answered m p ≡ answered n q
 answers m zero p q e h = let k = h refl in cc
 answers m (suc n) p q e h = cc
 

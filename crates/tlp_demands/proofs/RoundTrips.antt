@@ -5,17 +5,17 @@ use mathlib.Core.List.{List}
 use native.Mathlib.Nat.{le_refl}
 use lib.ListN.{length, take}
 use Rattle.bits.proofs.PutLaws.{take-over}
+use Rattle.std.specs.Prelude.{Ok}
 use Rattle.tlp.specs.declared.settings.Settings.{Settings}
 use Rattle.tlp.specs.declared.packet.Packet.{Packet}
 use Rattle.tlp_write.specs.Layout.{bytes_of}
 use Rattle.tlp_write.specs.Write.{write_packet, write_out}
-use Rattle.tlp_write.specs.declared.WriteAnswer.TheVariants.{Written}
 use Rattle.tlp_demands.specs.RoundTrips.{WriteThenRead, ReadThenWrite, ReservedZero}
 use Rattle.tlp_demands.proofs.WriteRead.{written_none, bytes_read}
 use Rattle.tlp_demands.proofs.ReadWrite.{read-written}
 use Rattle.tlp_demands.proofs.WrittenBytes.{written_small}
 
-module _ (settings : Settings) (p : Packet) (payload out : List ℕ) (size : ℕ) (e : write_packet settings p (length payload) (length out) ≡ Written size) where
+module _ (settings : Settings) (p : Packet) (payload out : List ℕ) (size : ℕ) (e : write_packet settings p (length payload) (length out) ≡ Ok size) where
   front-written : take size (write_out settings p payload out) ≡ bytes_of p payload
   unfolding write_out
   front-written = rw e (take-over (bytes_of p payload) out size (bytes_read settings p payload (length out) size e).1.1)

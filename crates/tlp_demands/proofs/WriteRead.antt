@@ -11,6 +11,8 @@ use borrow.Author.Tests.{eq-eqb, eqb-true, not-false, le-ltb, ltb-false}
 use Rattle.bits.specs.Choice.{pick}
 use Rattle.bits.specs.Word.{byte, word, bytes}
 use Rattle.bits.proofs.WordLaws.{word_bytes}
+use Rattle.std.specs.Prelude.{Ok}
+use Rattle.tlp.specs.Refusals.{answered}
 use Rattle.tlp.specs.PacketTypes.{type_at, header_dw, family_of, is_memory}
 use Rattle.tlp.specs.Packets.{type_of, access_of}
 use Rattle.tlp.specs.Rows.{first, NoneHold}
@@ -21,11 +23,9 @@ use Rattle.tlp.specs.declared.settings.Settings.{Settings}
 use Rattle.tlp.specs.declared.packet.Packet.{Packet}
 use Rattle.tlp_read.specs.Fields.{address_type_at, digest_word, packet_at}
 use Rattle.tlp_read.specs.Read.{hint_or_address_type_set, read_rows, read_packet, payload_of}
-use Rattle.tlp_read.specs.declared.ReadAnswer.TheVariants.{Accepted}
 use Rattle.tlp_write.specs.Layout.{front_bytes, own_bytes, header_of, digest_of, bytes_of, size_of}
 use Rattle.tlp_writable.specs.Given.{common_bad, own_bad, reserved_given, route_bad}
-use Rattle.tlp_write.specs.Write.{write_rows, write_answer, write_packet}
-use Rattle.tlp_write.specs.declared.WriteAnswer.TheVariants.{Written}
+use Rattle.tlp_write.specs.Write.{write_rows, write_packet}
 use Rattle.tlp.proofs.RowLaws.{none_first, first-none}
 use Rattle.tlp_demands.proofs.Fits.{common-fits}
 use Rattle.tlp_demands.proofs.Front.{FrontBack, front-back}
@@ -130,18 +130,18 @@ module _ (p : Packet) (payload : List ℕ) (f : Fit p payload) where
       rw own.type (s, (three, (own.listed, (four, (size_is, (hints, (r5, (r6, (r7, (r8, (own.routing, (own.form, tt))))))))))))
 
 -- an answer that is no refusal has no number
-write-zero : (n size size' : ℕ) → write_answer n size ≡ Written size' → (n ≡ 0) × (size ≡ size')
+write-zero : (n size size' : ℕ) → answered n size ≡ Ok size' → (n ≡ 0) × (size ≡ size')
 write-zero zero size size' e = (refl, cc)
 write-zero (suc n) size size' e = (cc, cc)
 
-pub written_none : (c : Settings) (p : Packet) (n room size : ℕ) → write_packet c p n room ≡ Written size → NoneHold (write_rows c p n room) × (size_of p ≡ size)
+pub written_none : (c : Settings) (p : Packet) (n room size : ℕ) → write_packet c p n room ≡ Ok size → NoneHold (write_rows c p n room) × (size_of p ≡ size)
 unfolding write_packet
 written_none c p n room size e =
     let z = write-zero (first (write_rows c p n room)) (size_of p) size e in
     (first-none (write_rows c p n room) refl z.0, z.1)
 
-pub bytes_read : (c : Settings) (p : Packet) (payload : List ℕ) (room size : ℕ) → write_packet c p (length payload) room ≡ Written size
-    → (read_packet c (bytes_of p payload) ≡ Accepted p) × ((payload_of p (bytes_of p payload) ≡ payload) × (size ≡ length (bytes_of p payload)))
+pub bytes_read : (c : Settings) (p : Packet) (payload : List ℕ) (room size : ℕ) → write_packet c p (length payload) room ≡ Ok size
+    → (read_packet c (bytes_of p payload) ≡ Ok p) × ((payload_of p (bytes_of p payload) ≡ payload) × (size ≡ length (bytes_of p payload)))
 unfolding read_packet
 bytes_read c p payload room size e =
     let z = written_none c p (length payload) room size e in
@@ -149,4 +149,4 @@ bytes_read c p payload room size e =
     let f : Fit p payload = record { common = b; own = k; reserved = g; route = r; lent = eqb-true _ _ (not-false _ l) } in
     let none = none_first (read_rows c (bytes_of p payload)) (read-rows p payload f c s (r5, (r6, (r7, (r8, tt))))) in
     let same : packet_at (type_at (byte (bytes_of p payload) 0)) (bytes_of p payload) ≡ p = rw (own p payload f).type (packet p payload f) in
-    (rw none (ap Accepted same), (same-payload p payload f, sym z.1 ∙ sym (packet-size p payload f)))
+    (rw none (ap Ok same), (same-payload p payload f, sym z.1 ∙ sym (packet-size p payload f)))

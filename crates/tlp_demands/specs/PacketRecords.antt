@@ -1,11 +1,10 @@
 -- What packets are as records and back: two theorems, proved in proofs/PacketRecords.antt.
-use Rattle.std.specs.Prelude.{ℕ, ◌≡◌, true, List}
+use Rattle.std.specs.Prelude.{ℕ, ◌≡◌, true, List, Ok}
 use Rattle.bits.specs.Word.{Bytes}
 use Rattle.tlp.specs.Rows.{NoneHold}
 use Rattle.tlp.specs.declared.settings.Settings.{Settings}
 use Rattle.tlp.specs.declared.packet.Packet.{Packet}
 use Rattle.tlp_read.specs.Read.{read_packet}
-use Rattle.tlp_read.specs.declared.ReadAnswer.TheVariants.{Accepted}
 use Rattle.tlp_record.specs.Record.{record_of, record_packet, is_record}
 use Rattle.tlp_writable.specs.Given.{given_rows}
 
@@ -24,5 +23,5 @@ abbrev pub RecordOfRead : Type 0
 RecordOfRead =
     (settings : Settings) (packet : List ℕ) (p : Packet)
     → Bytes packet
-    → read_packet settings packet ≡ Accepted p
+    → read_packet settings packet ≡ Ok p
     → HasRecord p

@@ -16,7 +16,7 @@ use Rattle.tlp_writable.specs.Given.{common_bad, own_bad, reserved_given, route_
 use Rattle.tlp_record.specs.Record.{fields_of, route_case, route_value, kind_numbered, kind_in, route_numbered, route_in, record_packet, is_record}
 use Rattle.tlp_record.proofs.RecordFacts.{record-length, record-kind}
 use Rattle.tlp_record_write.specs.Inner.Fit.{writable}
-use Rattle.tlp_record_write.specs.Inner.Shared.{flags_kept, route_kept, shared_fits}
+use Rattle.tlp_record_write.specs.Inner.Shared.{flags_kept, route_kept, common_over, shared_fits}
 use Rattle.tlp_record_write.proofs.Kept.{all_true, fields_kept, same_bool, record-kept}
 
 pub eqb-self : (n : ℕ) → eqb n n ≡ true
@@ -94,14 +94,18 @@ module _ (s : List ℕ) (len : length s ≡ 48) (small : AllBytes s) where
       ∙ group (eqb (byte s 3) (flag (eqb (byte s 3) 1))) (eqb (byte s 4) (flag (eqb (byte s 4) 1))) (eqb (byte s 5) (route_case (route_numbered (byte s 5) s))) (eqb (word 8 s 8) (route_value (route_numbered (byte s 5) s))) (all_true (fields_kept s (fields_of (kind_numbered (byte s 0) s))))
       ∙ rw (flag-kept (byte s 3), flag-kept (byte s 4), route-kept (byte s 5) s small)
 
+  common_is : common_bad (record_packet s) ≡ common_over s
+  unfolding common_bad record_packet
+  common_is = rw (lt-leb (2 ^ 32) (word 4 s 24) (word_lt 4 s 24 small))
+
   given_is : eqb (first (given_rows (record_packet s))) 0
-      ≡ not (common_bad (record_packet s)) && (not (own_bad (kind_in s)) && (not (reserved_given (record_packet s)) && not (route_bad (route_in s) (kind_in s))))
+      ≡ not (common_over s) && (not (own_bad (kind_in s)) && (not (reserved_given (record_packet s)) && not (route_bad (route_in s) (kind_in s))))
   unfolding first record_packet
-  given_is = rows_none (common_bad (record_packet s)) (own_bad (kind_in s)) (reserved_given (record_packet s)) (route_bad (route_in s) (kind_in s))
+  given_is = rows_none (common_bad (record_packet s)) (own_bad (kind_in s)) (reserved_given (record_packet s)) (route_bad (route_in s) (kind_in s)) ∙ rw common_is
 
   shared-fails : shared_fits s ≡ false → false ≡ writable s
   unfolding writable shared_fits
-  shared-fails h = sym (ap (λ (b : Bool). b && eqb (first (given_rows (record_packet s))) 0) record_is ∙ rw given_is (shared-no (flags_kept (byte s 3) (byte s 4)) (route_kept (byte s 5) (word 8 s 8)) _ (not (common_bad (record_packet s))) _ h))
+  shared-fails h = sym (ap (λ (b : Bool). b && eqb (first (given_rows (record_packet s))) 0) record_is ∙ rw given_is (shared-no (flags_kept (byte s 3) (byte s 4)) (route_kept (byte s 5) (word 8 s 8)) _ (not (common_over s)) _ h))
 
   -- the rest, of a record whose shared part fits
   pub writable-is : shared_fits s ≡ true
@@ -109,7 +113,7 @@ module _ (s : List ℕ) (len : length s ≡ 48) (small : AllBytes s) where
       ≡ all_true (fields_kept s (fields_of (kind_numbered (byte s 0) s)))
       && (not (own_bad (kind_in s)) && (not (reserved_given (record_packet s)) && not (route_bad (route_in s) (kind_in s))))
   unfolding writable shared_fits
-  writable-is h = ap (λ (b : Bool). b && eqb (first (given_rows (record_packet s))) 0) record_is ∙ rw given_is (shared-yes (flags_kept (byte s 3) (byte s 4)) (route_kept (byte s 5) (word 8 s 8)) _ (not (common_bad (record_packet s))) _ h)
+  writable-is h = ap (λ (b : Bool). b && eqb (first (given_rows (record_packet s))) 0) record_is ∙ rw given_is (shared-yes (flags_kept (byte s 3) (byte s 4)) (route_kept (byte s 5) (word 8 s 8)) _ (not (common_over s)) _ h)
 
 pub not-shared : (s t : List ℕ) → length s ≡ 48 → t ≡ s → Bytes s → false ≡ shared_fits t → writable s ≡ false
 not-shared s t len e small h = sym (shared-fails s len (λ i l. small i) (sym (rw e at h)))

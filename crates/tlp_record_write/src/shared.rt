@@ -3,9 +3,7 @@
 ghost use Rattle.std.specs.Prelude.{◌≡◌};
 ghost use Rattle.bits.specs.Word.{byte, word};
 ghost use Rattle.tlp_record.specs.Places.{poisoned_place, digest_present_place, route_place, route_value_place};
-ghost use Rattle.tlp_record.specs.Record.{record_packet};
-ghost use Rattle.tlp_writable.specs.Given.{common_bad};
-ghost use Rattle.tlp_record_write.specs.Inner.Shared.{flags_kept, route_kept, shared_fits};
+ghost use Rattle.tlp_record_write.specs.Inner.Shared.{flags_kept, route_kept, common_over, shared_fits};
 
 use crate::place::{eight, four};
 use tlp_record::places::{
@@ -32,19 +30,17 @@ fn route_kept(record: &[u8; RECORD_SIZE]) -> bool
 }
 
 // With TD clear the digest is 0, else the writer gives 6.
-#[tactic(auto, unfolding(tlp_writable::specs::Given::common_bad, tlp_record::specs::Record::record_packet))]
-fn common_bad(record: &[u8; RECORD_SIZE]) -> bool
-    ensures { result ≡ common_bad (record_packet «record».now) }
+fn common_over(record: &[u8; RECORD_SIZE]) -> bool
+    ensures { result ≡ common_over «record».now }
 {
-    let digest = four(record, DIGEST);
     8 <= record[TRAFFIC_CLASS]
         || 8 <= record[ATTRIBUTES]
-        || record[DIGEST_PRESENT] != 1 && digest != 0
+        || record[DIGEST_PRESENT] != 1 && four(record, DIGEST) != 0
 }
 
 #[tactic(auto, unfolding(crate::specs::Inner::Shared::shared_fits))]
 pub(crate) fn shared_fits(record: &[u8; RECORD_SIZE]) -> bool
     ensures { result ≡ shared_fits «record».now }
 {
-    flags_kept(record) && route_kept(record) && !common_bad(record)
+    flags_kept(record) && route_kept(record) && !common_over(record)
 }
