@@ -8,7 +8,6 @@ use mathlib.Core.List.{List, [], ◌∷◌, ◌++◌, append_assoc}
 use lib.Dec.{eqb}
 use lib.ListN.{length, take, drop, length-append}
 use lib.Seq.{sets, sets-eq, length-sets}
-use borrow.Author.Tests.{eqb-true}
 use Rattle.bits.specs.Choice.{pick, flag}
 use Rattle.bits.specs.Word.{byte, word, bytes, Bytes}
 use Rattle.bits.specs.Put.{put, over_front}
@@ -219,16 +218,7 @@ module _ (packet out o : List ℕ) (small : Bytes packet) where
 
 module _ (packet : List ℕ) where
   module _ (h : family_of (packet_type_at packet) ≡ Memory) (room : 4 * header_dw (packet_type_at packet) ≤ length packet) where
-    pub narrow-room : 12 ≤ length packet
-    narrow-room = let k : 12 ≤ 4 * header_dw (packet_type_at packet) = memory-types (λ t. 12 ≤ 4 * header_dw t) (omega arith) (omega arith) (omega arith) (omega arith) (packet_type_at packet) h in omega (arith, k, room)
-
     module _ (b : ℕ) (eb : b ≡ byte packet 0) (r : Bool) (f : is_unlisted (family_of (type_at b)) ≡ false → r ≡ eqb (header_dw (type_at b)) 4) where
-      pub wide_room : r ≡ true → 16 ≤ length packet
-      wide_room q =
-          let g : r ≡ eqb (header_dw (packet_type_at packet)) 4 = rw eb at f (rw h) in
-          let k = eqb-true (header_dw (packet_type_at packet)) 4 (sym g ∙ q) in
-          omega (arith, k, room)
-
       pub wide-laid : (out o : List ℕ) → r ≡ true → o ≡ put 8 (bytes 8 (address_at 8 packet)) out → o ≡ put 8 (bytes 8 (address_of (route_at (packet_type_at packet) packet))) out
       wide-laid out o q eo = eo ∙ ap (λ (x : ℕ). put 8 (bytes 8 x) out) (address-wide packet b eb r f (word 8 packet 8) q (λ _. refl) h room)
 

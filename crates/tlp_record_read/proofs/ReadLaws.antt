@@ -69,9 +69,6 @@ module _ (settings : Settings) (packet : List ℕ) (e : Ok tt ≡ checked (first
   pub read-short-answer : (room : ℕ) → room < 48 → Err OutputTooShort ≡ read_answer (read_packet settings packet) room
   read-short-answer room l = rw (accepted, lt-ltb room 48 l)
 
-  pub read-short-record : (out : List ℕ) → length out < 48 → out ≡ read_record (read_packet settings packet) out
-  read-short-record out l = rw (accepted, lt-ltb (length out) 48 l)
-
   pub read-laid-answer : (room : ℕ) → 48 ≤ room → Ok tt ≡ read_answer (read_packet settings packet) room
   read-laid-answer room l = rw (accepted, le-ltb room 48 l)
 
@@ -89,9 +86,6 @@ module _ (settings : Settings) (packet : List ℕ) (e : Ok tt ≡ checked (first
   module _ (b : ℕ) (f : Family) (eb : b ≡ byte packet 0) (ef : is_unlisted (family_of (type_at b)) ≡ false → f ≡ family_of (type_at b)) where
     pub read-family : f ≡ family_of (type_at (byte packet 0))
     read-family = rw eb at ef rows-clear.1.1.0
-
-    pub read-listed : is_unlisted f ≡ false
-    read-listed = rw read-family rows-clear.1.1.0
 
   pub read-room : 4 * header_dw (type_at (byte packet 0)) ≤ length packet
   read-room =

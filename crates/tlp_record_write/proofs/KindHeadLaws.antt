@@ -31,7 +31,7 @@ use Rattle.tlp.specs.declared.packet.CompletionHeader.{CompletionHeader}
 use Rattle.tlp.specs.declared.packet.Kind.{Kind}
 use Rattle.tlp.specs.declared.packet.Kind.TheVariants.{MemoryRead, MemoryWrite, IoRead, IoWrite, ConfigRead0, ConfigWrite0, ConfigRead1, ConfigWrite1, Message, MessageData, Completion, CompletionData}
 use Rattle.tlp.specs.declared.packet_type.PacketType.{PacketType}
-use Rattle.tlp.specs.declared.packet_type.PacketType.TheVariants.{MRd32, MRd64, MWr32, MWr64}
+use Rattle.tlp.specs.declared.packet_type.PacketType.TheVariants.{MRd32, MRd64, MWr32, MWr64, IORd, IOWr, Msg, MsgD, Cpl, CplD}
 use Rattle.tlp.specs.declared.packet_type.Family.{Family}
 use Rattle.tlp.specs.declared.packet_type.Family.TheVariants.{Memory}
 use Rattle.tlp_write.specs.Layout.{routing, routing_in, request_bytes, memory_address, config_bytes, message_bytes, completion_bytes, own_bytes}
@@ -40,7 +40,7 @@ use Rattle.tlp_write.specs.Inner.Head.{word_bytes}
 use Rattle.tlp_record.specs.Record.{request_in, config_in, message_in, completion_in, kind_numbered, kind_in, route_numbered, route_in, record_packet}
 use Rattle.tlp_record_write.specs.Inner.Fit.{writable}
 use Rattle.tlp_record_write.specs.Inner.Kinds.{all_zero, request_over, config_over, completion_over, length_kept, not_address, memory_fits, io_fits, config_fits, message_fits, completion_fits}
-use Rattle.tlp_record_write.specs.Inner.KindHead.{type_numbered, case_routing, KindCase, IsKindHead, JudgedHead}
+use Rattle.tlp_record_write.specs.Inner.KindHead.{memory_type, config_type, case_routing, KindCase, IsKindHead, JudgedHead}
 use Rattle.tlp_record_write.specs.declared.kind_head.KindHead.{KindHead}
 use Rattle.tlp_record_write.proofs.Families.{memory-law, io-law, config-law, message-law, completion-law}
 
@@ -145,7 +145,7 @@ module _ (s : List ℕ) (o : KindHead) (n : ℕ) (e : n ≡ byte s 0) where
     access-is : a ≡ access_at (word 8 s 8) (request_in s)
     access-is = rw (← ev, ← eq) ea
 
-    memory-head : 1 ≤ n → n ≤ 2 → memory_fits s ≡ true → o.packet_type ≡ type_numbered n (word 8 s 8) → o.routing ≡ 0 → o.fault ≡ checked (first (memory_rows a))
+    memory-head : 1 ≤ n → n ≤ 2 → memory_fits s ≡ true → o.packet_type ≡ memory_type n v → o.routing ≡ 0 → o.fault ≡ checked (first (memory_rows a))
         → word_bytes o.words ≡ padded 12 (request_bytes q ++ memory_address v) → IsKindHead o s
     unfolding routing_in own_bytes request_in
     memory-head l h fits et eg ef ew = by n refl
@@ -160,17 +160,17 @@ module _ (s : List ℕ) (o : KindHead) (n : ℕ) (e : n ≡ byte s 0) where
         by zero k = absurd (omega (arith, l, k))
         by (suc zero) k =
             head_of s o (Address (word 8 s 8)) (MemoryRead (request_in s)) (memory-route s fits) (kind_at s 1 (sym k ∙ e))
-            (et ∙ rw k) eg
+            (et ∙ rw (k, ev)) eg
             (memory-faults _ _ (byte s 1) (byte s 2) o.fault (memory-family (ltb (word 8 s 8) (2 ^ 32)) MRd32 MRd64 refl refl) faults)
             words refl
         by (suc (suc zero)) k =
             head_of s o (Address (word 8 s 8)) (MemoryWrite (request_in s)) (memory-route s fits) (kind_at s 2 (sym k ∙ e))
-            (et ∙ rw k) eg
+            (et ∙ rw (k, ev)) eg
             (memory-faults _ _ (byte s 1) (byte s 2) o.fault (memory-family (ltb (word 8 s 8) (2 ^ 32)) MWr32 MWr64 refl refl) faults)
             words refl
         by (suc (suc (suc m))) k = absurd (omega (arith, h, k))
 
-    io-head : 3 ≤ n → n ≤ 4 → io_fits s ≡ true → o.packet_type ≡ type_numbered n (word 8 s 8) → o.routing ≡ 0
+    io-head : 3 ≤ n → n ≤ 4 → io_fits s ≡ true → o.packet_type ≡ pick (eqb n 3) IORd IOWr → o.routing ≡ 0
         → o.fault ≡ checked (first (register_rows a (byte s 1) (byte s 2) 0)) → word_bytes o.words ≡ padded 12 (request_bytes q ++ bytes 4 v) → IsKindHead o s
     unfolding routing_in own_bytes request_in first plain_bad enables_bad page_bad
     io-head l h fits et eg ef ew = by n refl
@@ -192,7 +192,7 @@ module _ (s : List ℕ) (o : KindHead) (n : ℕ) (e : n ≡ byte s 0) where
         by (suc (suc (suc (suc (suc m))))) k = absurd (omega (arith, h, k))
 
   config-head : (q : ConfigRequest) (i : ℕ) (a : Access) → q ≡ config_in s → i ≡ word 2 s 14 → a ≡ access_at 0 q.request
-      → 5 ≤ n → n ≤ 8 → config_fits s ≡ true → o.packet_type ≡ type_numbered n (word 8 s 8) → o.routing ≡ 0 → o.fault ≡ checked (first (register_rows a (byte s 1) (byte s 2) 0))
+      → 5 ≤ n → n ≤ 8 → config_fits s ≡ true → o.packet_type ≡ config_type n → o.routing ≡ 0 → o.fault ≡ checked (first (register_rows a (byte s 1) (byte s 2) 0))
       → word_bytes o.words ≡ padded 12 (config_bytes i q) → IsKindHead o s
   unfolding routing_in own_bytes config_in request_in first plain_bad enables_bad page_bad
   config-head q i a eq ei ea l h fits et eg ef ew = by n refl
@@ -233,7 +233,7 @@ module _ (s : List ℕ) (o : KindHead) (n : ℕ) (e : n ≡ byte s 0) where
       )
 
   message-head : (m : MessageRequest) → m ≡ message_in s → 9 ≤ n → n ≤ 10 → message_fits (eqb n 10) s ≡ true
-      → o.packet_type ≡ type_numbered n (word 8 s 8) → o.routing ≡ case_routing (byte s 5) → o.fault ≡ Ok tt → word_bytes o.words ≡ message_bytes m → IsKindHead o s
+      → o.packet_type ≡ pick (eqb n 10) MsgD Msg → o.routing ≡ case_routing (byte s 5) → o.fault ≡ Ok tt → word_bytes o.words ≡ message_bytes m → IsKindHead o s
   unfolding routing_in own_bytes first plain_bad enables_bad page_bad
   message-head m em l h fits et eg ef ew = by (eqb n 10) refl
     where
@@ -254,7 +254,7 @@ module _ (s : List ℕ) (o : KindHead) (n : ℕ) (e : n ≡ byte s 0) where
           head_of s o (route_numbered (byte s 5) s) (Message (message_in s)) (route-at s (byte s 5) refl) (kind_at s 9 m) (et ∙ rw j) routes ef words (message-bare-length s (rw k at fits))
 
   completion-head : (c : CompletionHeader) (i : ℕ) → c ≡ completion_in s → i ≡ word 2 s 14 → 11 ≤ n → n ≤ 12 → completion_fits (eqb n 12) s ≡ true
-      → o.packet_type ≡ type_numbered n (word 8 s 8) → o.routing ≡ 0 → o.fault ≡ Ok tt → word_bytes o.words ≡ padded 12 (completion_bytes i c) → IsKindHead o s
+      → o.packet_type ≡ pick (eqb n 12) CplD Cpl → o.routing ≡ 0 → o.fault ≡ Ok tt → word_bytes o.words ≡ padded 12 (completion_bytes i c) → IsKindHead o s
   unfolding routing_in own_bytes first plain_bad enables_bad page_bad
   completion-head c i ec ei l h fits et eg ef ew = by (eqb n 12) refl
     where
@@ -288,7 +288,7 @@ module _ (s : List ℕ) (len : length s ≡ 48) (each : Bytes s) (b : Bool) wher
     memory-none h = unfit memory-written h
 
     pub memory-some : (q : Request) (v : ℕ) (a : Access) (o : KindHead) → not b ≡ false → q ≡ request_in s → v ≡ word 8 s 8 → a ≡ access_at v q
-        → o.packet_type ≡ type_numbered (byte s 0) (word 8 s 8) → o.routing ≡ 0 → o.fault ≡ checked (first (memory_rows a))
+        → o.packet_type ≡ memory_type (byte s 0) v → o.routing ≡ 0 → o.fault ≡ checked (first (memory_rows a))
         → word_bytes o.words ≡ padded 12 (request_bytes q ++ memory_address v) → JudgedHead (Some o) s
     memory-some q v a o h eq ev ea et eg ef ew =
         fit memory-written h o (memory-head s o (byte s 0) refl q v a eq ev ea k.from k.upto (sym eb ∙ not-false b h) et eg ef ew)
@@ -301,7 +301,7 @@ module _ (s : List ℕ) (len : length s ≡ 48) (each : Bytes s) (b : Bool) wher
     io-none h = unfit io-written h
 
     pub io-some : (q : Request) (v : ℕ) (a : Access) (o : KindHead) → not b ≡ false → q ≡ request_in s → v ≡ word 8 s 8 → a ≡ access_at v q
-        → o.packet_type ≡ type_numbered (byte s 0) (word 8 s 8) → o.routing ≡ 0 → o.fault ≡ checked (first (register_rows a (byte s 1) (byte s 2) 0))
+        → o.packet_type ≡ pick (eqb (byte s 0) 3) IORd IOWr → o.routing ≡ 0 → o.fault ≡ checked (first (register_rows a (byte s 1) (byte s 2) 0))
         → word_bytes o.words ≡ padded 12 (request_bytes q ++ bytes 4 v) → JudgedHead (Some o) s
     io-some q v a o h eq ev ea et eg ef ew =
         fit io-written h o (io-head s o (byte s 0) refl q v a eq ev ea k.from k.upto (sym eb ∙ not-false b h) et eg ef ew)
@@ -314,7 +314,7 @@ module _ (s : List ℕ) (len : length s ≡ 48) (each : Bytes s) (b : Bool) wher
     config-none h = unfit config-written h
 
     pub config-some : (q : ConfigRequest) (i : ℕ) (a : Access) (o : KindHead) → not b ≡ false → q ≡ config_in s → i ≡ word 2 s 14 → a ≡ access_at 0 q.request
-        → o.packet_type ≡ type_numbered (byte s 0) (word 8 s 8) → o.routing ≡ 0 → o.fault ≡ checked (first (register_rows a (byte s 1) (byte s 2) 0))
+        → o.packet_type ≡ config_type (byte s 0) → o.routing ≡ 0 → o.fault ≡ checked (first (register_rows a (byte s 1) (byte s 2) 0))
         → word_bytes o.words ≡ padded 12 (config_bytes i q) → JudgedHead (Some o) s
     config-some q i a o h eq ei ea et eg ef ew =
         fit config-written h o (config-head s o (byte s 0) refl q i a eq ei ea k.from k.upto (sym eb ∙ not-false b h) et eg ef ew)
@@ -326,7 +326,7 @@ module _ (s : List ℕ) (len : length s ≡ 48) (each : Bytes s) (b : Bool) wher
     pub message-none : not b ≡ true → JudgedHead None s
     message-none h = unfit message-written h
 
-    pub message-some : (m : MessageRequest) (o : KindHead) → not b ≡ false → m ≡ message_in s → o.packet_type ≡ type_numbered (byte s 0) (word 8 s 8)
+    pub message-some : (m : MessageRequest) (o : KindHead) → not b ≡ false → m ≡ message_in s → o.packet_type ≡ pick (eqb (byte s 0) 10) MsgD Msg
         → o.routing ≡ case_routing (byte s 5) → o.fault ≡ Ok tt → word_bytes o.words ≡ message_bytes m → JudgedHead (Some o) s
     message-some m o h em et eg ef ew =
         fit message-written h o (message-head s o (byte s 0) refl m em k.from k.upto (sym eb ∙ not-false b h) et eg ef ew)
@@ -339,6 +339,6 @@ module _ (s : List ℕ) (len : length s ≡ 48) (each : Bytes s) (b : Bool) wher
     completion-none h = unfit completion-written h
 
     pub completion-some : (c : CompletionHeader) (i : ℕ) (o : KindHead) → not b ≡ false → c ≡ completion_in s → i ≡ word 2 s 14
-        → o.packet_type ≡ type_numbered (byte s 0) (word 8 s 8) → o.routing ≡ 0 → o.fault ≡ Ok tt → word_bytes o.words ≡ padded 12 (completion_bytes i c) → JudgedHead (Some o) s
+        → o.packet_type ≡ pick (eqb (byte s 0) 12) CplD Cpl → o.routing ≡ 0 → o.fault ≡ Ok tt → word_bytes o.words ≡ padded 12 (completion_bytes i c) → JudgedHead (Some o) s
     completion-some c i o h ec ei et eg ef ew =
         fit completion-written h o (completion-head s o (byte s 0) refl c i ec ei k.from k.upto (sym eb ∙ not-false b h) et eg ef ew)

@@ -1,12 +1,12 @@
 // What a record's kind decides: whether it can be written, and the part of its head that not every kind has alike. One
 // branch by kind for both.
 ghost use Rattle.std.specs.Prelude.{◌≡◌, true};
-ghost use Rattle.bits.specs.Word.{byte, word};
+ghost use Rattle.bits.specs.Word.{byte};
 ghost use Rattle.tlp_record.specs.Record.{request_in, config_in, message_in, completion_in, record_packet};
-ghost use Rattle.tlp_record.specs.Places.{kind_place, route_place, route_value_place};
+ghost use Rattle.tlp_record.specs.Places.{kind_place, route_place};
 ghost use Rattle.tlp_write.specs.Inner.Head.{IsHead};
 ghost use Rattle.tlp_record_write.specs.Inner.Shared.{shared_fits};
-ghost use Rattle.tlp_record_write.specs.Inner.KindHead.{type_numbered, case_routing, KindCase, IsKindHead, JudgedHead};
+ghost use Rattle.tlp_record_write.specs.Inner.KindHead.{memory_type, config_type, case_routing, KindCase, IsKindHead, JudgedHead};
 
 use crate::kinds::{completion_fits, config_fits, io_fits, memory_fits, message_fits};
 use crate::place::{eight, four, two};
@@ -71,6 +71,8 @@ fn message_in(record: &[u8; RECORD_SIZE]) -> MessageRequest
     }
 }
 
+// Most of what is written are completions: with calls left on their way, writing takes a tenth longer.
+#[inline(always)]
 #[tactic(auto, unfolding(tlp_record::specs::Record::completion_in))]
 fn completion_in(record: &[u8; RECORD_SIZE]) -> CompletionHeader
     ensures { result ≡ completion_in «record».now }
@@ -85,24 +87,23 @@ fn completion_in(record: &[u8; RECORD_SIZE]) -> CompletionHeader
     }
 }
 
-fn type_in(record: &[u8; RECORD_SIZE]) -> PacketType
-    ensures { result
-        ≡ type_numbered (byte «record».now kind_place) (word 8 «record».now route_value_place) }
+fn memory_type(address: u64, record: &[u8; RECORD_SIZE]) -> PacketType
+    ensures { result ≡ memory_type (byte «record».now kind_place) address }
 {
-    let address = eight(record, ROUTE_VALUE);
     match record[KIND] {
         1 => memory_form(address, PacketType::MRd32, PacketType::MRd64),
-        2 => memory_form(address, PacketType::MWr32, PacketType::MWr64),
-        3 => PacketType::IORd,
-        4 => PacketType::IOWr,
+        _ => memory_form(address, PacketType::MWr32, PacketType::MWr64),
+    }
+}
+
+fn config_type(record: &[u8; RECORD_SIZE]) -> PacketType
+    ensures { result ≡ config_type (byte «record».now kind_place) }
+{
+    match record[KIND] {
         5 => PacketType::CfgRd0,
         6 => PacketType::CfgWr0,
         7 => PacketType::CfgRd1,
-        8 => PacketType::CfgWr1,
-        9 => PacketType::Msg,
-        10 => PacketType::MsgD,
-        11 => PacketType::Cpl,
-        _ => PacketType::CplD,
+        _ => PacketType::CfgWr1,
     }
 }
 
@@ -116,7 +117,7 @@ fn memory_head(record: &[u8; RECORD_SIZE]) -> Option<KindHead>
     let q = request_in(record);
     let address = eight(record, ROUTE_VALUE);
     Some(KindHead {
-        packet_type: type_in(record),
+        packet_type: memory_type(address, record),
         routing: 0,
         fault: memory_fault(access_at(address, q)),
         words: memory_words(address, q),
@@ -134,7 +135,11 @@ fn io_head(record: &[u8; RECORD_SIZE]) -> Option<KindHead>
     let address = eight(record, ROUTE_VALUE);
     let access = access_at(address, q);
     Some(KindHead {
-        packet_type: type_in(record),
+        packet_type: if record[KIND] == 3 {
+            PacketType::IORd
+        } else {
+            PacketType::IOWr
+        },
         routing: 0,
         fault: register_fault(access, record[TRAFFIC_CLASS], record[ATTRIBUTES], 0),
         words: io_words(address, q),
@@ -151,7 +156,7 @@ fn config_head(record: &[u8; RECORD_SIZE]) -> Option<KindHead>
     let q = config_in(record);
     let access = access_at(0, q.request);
     Some(KindHead {
-        packet_type: type_in(record),
+        packet_type: config_type(record),
         routing: 0,
         fault: register_fault(access, record[TRAFFIC_CLASS], record[ATTRIBUTES], 0),
         words: config_words(two(record, ROUTE_ID), q),
@@ -178,13 +183,18 @@ fn message_head(record: &[u8; RECORD_SIZE]) -> Option<KindHead>
         return None;
     }
     Some(KindHead {
-        packet_type: type_in(record),
+        packet_type: if record[KIND] == 10 {
+            PacketType::MsgD
+        } else {
+            PacketType::Msg
+        },
         routing: case_routing(record),
         fault: Ok(()),
         words: message_words(message_in(record)),
     })
 }
 
+#[inline(always)]
 fn completion_head(record: &[u8; RECORD_SIZE]) -> Option<KindHead>
     requires { KindCase 11 12 «record».now }
     ensures { JudgedHead result «record».now }
@@ -193,7 +203,11 @@ fn completion_head(record: &[u8; RECORD_SIZE]) -> Option<KindHead>
         return None;
     }
     Some(KindHead {
-        packet_type: type_in(record),
+        packet_type: if record[KIND] == 12 {
+            PacketType::CplD
+        } else {
+            PacketType::Cpl
+        },
         routing: 0,
         fault: Ok(()),
         words: completion_words(two(record, ROUTE_ID), completion_in(record)),

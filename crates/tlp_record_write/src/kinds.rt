@@ -143,6 +143,7 @@ pub(crate) fn message_fits(has_length: bool, record: &[u8; RECORD_SIZE]) -> bool
     length_kept(has_length, record) && message_zero(record) && !not_message(record)
 }
 
+#[inline(always)]
 #[tactic(auto, unfolding(crate::specs::Inner::Kinds::completion_fits))]
 pub(crate) fn completion_fits(has_length: bool, record: &[u8; RECORD_SIZE]) -> bool
     ensures { result ≡ completion_fits has_length «record».now }

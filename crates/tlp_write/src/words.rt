@@ -86,6 +86,7 @@ pub fn message_words(m: MessageRequest) -> Words
 }
 
 // Those of a completion, with the requester ID that it goes to.
+#[inline(always)]
 pub fn completion_words(requester: u16, c: CompletionHeader) -> Words
     ensures { word_bytes result ≡ padded 12 (completion_bytes requester c) }
 {

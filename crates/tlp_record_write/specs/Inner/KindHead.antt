@@ -8,7 +8,7 @@ use Rattle.tlp.specs.PacketTypes.{family_of}
 use Rattle.tlp.specs.Contents.{fault_rows}
 use Rattle.tlp.specs.Packets.{memory_form, type_of, access_of}
 use Rattle.tlp.specs.declared.packet_type.PacketType.{PacketType}
-use Rattle.tlp.specs.declared.packet_type.PacketType.TheVariants.{MRd32, MRd64, MWr32, MWr64, IORd, IOWr, CfgRd0, CfgWr0, CfgRd1, CfgWr1, Msg, MsgD, Cpl, CplD}
+use Rattle.tlp.specs.declared.packet_type.PacketType.TheVariants.{MRd32, MRd64, MWr32, MWr64, CfgRd0, CfgWr0, CfgRd1, CfgWr1}
 use Rattle.tlp_write.specs.Layout.{routing_in, own_bytes}
 use Rattle.tlp_write.specs.Inner.Padded.{padded}
 use Rattle.tlp_write.specs.Inner.Head.{word_bytes, IsHead}
@@ -19,20 +19,12 @@ use Rattle.tlp_record_write.specs.Inner.Fit.{writable}
 use Rattle.tlp_record_write.specs.Inner.Shared.{shared_fits}
 use Rattle.tlp_record_write.specs.declared.kind_head.KindHead.{KindHead}
 
--- the type by a record's kind, of those with the address a
-abbrev pub type_numbered : ℕ → ℕ → PacketType
-type_numbered n a =
-    pick (eqb n 1) (memory_form a MRd32 MRd64)
-    (pick (eqb n 2) (memory_form a MWr32 MWr64)
-    (pick (eqb n 3) IORd
-    (pick (eqb n 4) IOWr
-    (pick (eqb n 5) CfgRd0
-    (pick (eqb n 6) CfgWr0
-    (pick (eqb n 7) CfgRd1
-    (pick (eqb n 8) CfgWr1
-    (pick (eqb n 9) Msg
-    (pick (eqb n 10) MsgD
-    (pick (eqb n 11) Cpl CplD))))))))))
+-- types by a record's kind
+abbrev pub memory_type : ℕ → ℕ → PacketType
+memory_type n a = pick (eqb n 1) (memory_form a MRd32 MRd64) (memory_form a MWr32 MWr64)
+
+abbrev pub config_type : ℕ → PacketType
+config_type n = pick (eqb n 5) CfgRd0 (pick (eqb n 6) CfgWr0 (pick (eqb n 7) CfgRd1 CfgWr1))
 
 -- a message's routing by the case of a record's route
 abbrev pub case_routing : ℕ → ℕ
