@@ -8,30 +8,29 @@ pub fn clear_below(x: u8) -> u32
 {
     let n = x % 16;
     if n == 0 {
-        return 4;
+        4
+    } else {
+        (n as u32).trailing_zeros()
     }
-    u32::trailing_zeros(n as u32)
 }
 
 // The clear bits above the highest set bit of a nibble; 4 where none is set.
 pub fn clear_above(x: u8) -> u32
     ensures { result ≡ clear_above 4 (x % 16) }
 {
-    let n = x % 16;
-    u32::leading_zeros(n as u32) - 28
+    ((x % 16) as u32).leading_zeros() - 28
 }
 
 // The set bits of a nibble.
 pub fn set_bits(x: u8) -> u32
     ensures { result ≡ set_bits 4 (x % 16) }
 {
-    let n = x % 16;
-    u32::count_ones(n as u32)
+    ((x % 16) as u32).count_ones()
 }
 
 // The lowest bit that is set; 64 where none is.
 pub fn lowest_bit(x: u64) -> usize
     ensures { result ≡ clear_below 64 x }
 {
-    u64::trailing_zeros(x) as usize
+    x.trailing_zeros() as usize
 }

@@ -62,18 +62,12 @@ pub fn hex_only(text: &[u8]) -> bool
     good
 }
 
-fn join(a: u8, b: u8) -> u16
-    ensures { (result % 256 ≡ a) × (result / 256 ≡ b) }
-{
-    a as u16 + b as u16 * 256
-}
-
 // Two letters in one number, the first of them lowest, so that one load reads both.
 fn pair_at(text: &[u8], at: usize) -> u16
     requires { at + 1 < length text.now }
     ensures { (result % 256 ≡ slice_index text.now at) × (result / 256 ≡ slice_index text.now (at + 1)) }
 {
-    join(text[at], text[at + 1])
+    u16::from_le_bytes([text[at], text[at + 1]])
 }
 
 // The first n bytes that the digits of a text spell.

@@ -54,7 +54,7 @@ pub(crate) fn digit_count(n: u64, base: u64) -> usize
     requires { 1 < base }
     ensures { result ≡ digit_count base n }
 {
-    // m is n without its k - 1 lowest digits.
+    // m is n without its k - 1 lowest digits; k counts the divisions, and indexes nothing.
     let mut m = n;
     let mut k: usize = 1;
     while base <= m {
@@ -70,7 +70,7 @@ fn lay_digits(n: u64, base: u64, w: usize, at: usize, out: &mut [u8]) -> usize
     ensures value { result ≡ at + w }
     ensures out_after { out.new ≡ put at (digits base w n) out.old }
 {
-    // m is what is left of n; its digits go before index i.
+    // m is what is left of n; its digits go before index i, the lowest first, so i goes down with m.
     let mut m = n;
     let mut i = at + w;
     while at < i {

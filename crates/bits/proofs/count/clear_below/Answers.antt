@@ -9,7 +9,7 @@ pub returns-then-n-eq0 : goal.returns-then-n-eq0
 unfolding clear_below
 returns-then-n-eq0 c = rw c.if-n-eq0.true
 
-pub returns : goal.returns
-returns c =
+pub returns-else-n-eq0 : goal.returns-else-n-eq0
+returns-else-n-eq0 c =
     let n = c.args.x % 16 in
     trailing_narrow 4 32 n (omega arith) (omega arith) (omega arith) ∙ trailing_below 4 n

@@ -1,5 +1,0 @@
-use native.Mathlib.Nat.{div-one}
-use Rattle.bits.proofs.word.bytes64.Goals as goal
-
-pub returns : goal.returns
-returns c = rw div-one
