@@ -1,9 +1,9 @@
 -- The sums over the steps of a capture of at most 70,000 bytes.
-use Prim.Native.Nat.{ℕ, ◌+◌, ◌-◌, ◌^◌, ◌≤◌, ◌<◌}
+use Prim.Native.Nat.{ℕ, ◌+◌, ◌^◌, ◌≤◌, ◌<◌}
 use mathlib.Core.Path.{◌≡◌}
 use mathlib.Core.List.{List}
 use native.Mathlib.Omega.{arith}
-use lib.ListN.{length, take, drop, length-take, length-drop}
+use lib.ListN.{length}
 use Rattle.capture_blocks.specs.Answers.{step_answer, end_answer}
 use Rattle.capture_blocks.specs.declared.Progress.{Progress}
 use Rattle.capture_blocks.specs.declared.Step.{Step}
@@ -34,8 +34,3 @@ module _ (p : Progress) (rest out : List ℕ) (r : BlockAnswer) (d : r ≡ end_a
   last-refused = omega (arith, h, end-lines p rest out r d step u, end_refused p rest out r d step u)
 
 pub ruleset end-laws = (last-lines, last-refused)
-
--- ---- a part
-
-pub part_small : (input part : List ℕ) (from to : ℕ) → part ≡ take (to - from) (drop from input) → length input ≤ input_room → length part ≤ input_room
-part_small input part from to e h = rw e (simp (length-take, length-drop) (omega (arith, h)))

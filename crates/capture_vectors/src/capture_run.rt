@@ -2,7 +2,6 @@
 ghost use Rattle.std.specs.Prelude.{◌≡◌, ◌+◌, ◌≤◌, length};
 ghost use Rattle.capture_vectors.specs.Inner.Sizes.{input_room};
 
-use bits::choice::lesser;
 use capture_blocks::{BlockAnswer, Progress, Step, decode_block, decode_end, put_totals_of};
 use text::words::part;
 
@@ -34,14 +33,13 @@ fn print(out: &[u8], n: usize) {
 fn advanced(run: Run, step: Step) -> Run
     requires used_bound { run.used + step.used ≤ input_room }
     requires lines_le_used { run.lines ≤ run.used }
-    requires lines_le_used_2 { step.lines ≤ step.used }
+    requires step_lines_le_used { step.lines ≤ step.used }
     requires refused_le_lines { run.refused ≤ run.lines }
-    requires refused_le_lines_2 { step.refused ≤ step.lines }
+    requires step_refused_le_lines { step.refused ≤ step.lines }
     ensures { (result.used ≡ run.used + step.used) × ((result.lines ≤ result.used) × (result.refused ≤ result.lines)) }
 {
-    let progress = step.progress;
     Run {
-        progress: progress,
+        progress: step.progress,
         used: run.used + step.used,
         lines: run.lines + step.lines,
         refused: run.refused + step.refused,
@@ -75,9 +73,8 @@ fn feed(capture: &[u8], block: usize, out: &mut [u8]) -> Run
     let mut run = first_run();
     let mut seen: usize = 0;
     while seen < capture.len() {
-        seen += lesser(block, capture.len() - seen);
-        let used = run.used;
-        run = take_step(run, &capture[used..seen], out);
+        seen += block.min(capture.len() - seen);
+        run = take_step(run, &capture[run.used..seen], out);
     }
     run
 }

@@ -34,13 +34,10 @@ fn main() {
     let mut out = output_buffer();
     let mut w = empty_window();
     // Each turn runs a frame, so no input uses them up.
-    let mut turns: u64 = 18446744073709551615;
-    while 0 < turns {
-        w = take_turn(w, &mut buf, &mut out);
-        if w.more {
-            turns -= 1;
-        } else {
-            turns = 0;
-        }
+    for _ in 0..u64::MAX {
+        let Some(next) = take_turn(w, &mut buf, &mut out) else {
+            break;
+        };
+        w = next;
     }
 }

@@ -1,5 +1,5 @@
 // The part of the input that is in the buffer.
-ghost use Rattle.std.specs.Prelude.{◌≡◌, ◌-◌, ◌≤◌, length};
+ghost use Rattle.std.specs.Prelude.{◌≡◌, ◌≤◌, length, IfSome};
 ghost use Rattle.capture_vectors.specs.Inner.Sizes.{input_room};
 
 use crate::frame::{FRAME_MOST, run_frame};
@@ -10,17 +10,12 @@ use text::buffer::move_to_front;
 pub(crate) struct Window {
     pub at: usize,
     pub end: usize,
-    pub more: bool,
 }
 
 pub(crate) fn empty_window() -> Window
     ensures { (result.at ≡ 0) × (result.end ≡ 0) }
 {
-    Window {
-        at: 0,
-        end: 0,
-        more: true,
-    }
+    Window { at: 0, end: 0 }
 }
 
 // Fills the buffer, unless it holds a whole frame already, so that not every frame moves what follows it.
@@ -37,24 +32,20 @@ fn refill(w: Window, buf: &mut [u8]) -> Window
     Window {
         at: 0,
         end: kept + got,
-        more: true,
     }
 }
 
-// Runs one frame.
-pub(crate) fn take_turn(before: Window, buf: &mut [u8], out: &mut [u8]) -> Window
+// Runs one frame; none where there is no other.
+pub(crate) fn take_turn(before: Window, buf: &mut [u8], out: &mut [u8]) -> Option<Window>
     requires at_le_end { before.at ≤ before.end }
     requires end_in_bounds { before.end ≤ length buf.old }
     requires buf_len { length buf.old ≡ input_room }
-    ensures { (result.at ≤ result.end) × (result.end ≤ length buf.old) }
+    ensures { IfSome result (λ w. (w.at ≤ w.end) × (w.end ≤ length buf.old)) }
 {
     let w = refill(before, buf);
-    let at = w.at;
-    let end = w.end;
-    let used = run_frame(&buf[at..end], out);
-    Window {
-        at: at + used,
-        end: end,
-        more: 0 < used,
-    }
+    let used = run_frame(&buf[w.at..w.end], out)?;
+    Some(Window {
+        at: w.at + used,
+        end: w.end,
+    })
 }

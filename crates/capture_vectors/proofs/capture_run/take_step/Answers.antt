@@ -6,9 +6,9 @@ pub advanced-requires : goal.advanced-requires
 advanced-requires c = record {
   used_bound = search step-laws depth 12 fits 4000;
   lines_le_used = search rules;
-  lines_le_used_2 = search step-laws depth 12 fits 4000;
+  step_lines_le_used = search step-laws depth 12 fits 4000;
   refused_le_lines = search rules;
-  refused_le_lines_2 = search step-laws depth 12 fits 4000;
+  step_refused_le_lines = search step-laws depth 12 fits 4000;
 }
 
 pub returns-in-Stepped : goal.returns-in-Stepped
