@@ -7,18 +7,18 @@ use lib.ListN.{length}
 use Rattle.capture_blocks.specs.Answers.{step_answer, end_answer}
 use Rattle.capture_blocks.specs.declared.Progress.{Progress}
 use Rattle.capture_blocks.specs.declared.Step.{Step}
-use Rattle.capture_blocks.specs.declared.BlockAnswer.{BlockAnswer}
-use Rattle.capture_blocks.specs.declared.BlockAnswer.TheVariants.{Stepped}
+use Rattle.std.specs.Prelude.{Result, Ok}
+use Rattle.tlp.specs.declared.refusal.Refusal.{Refusal}
 use Rattle.capture_blocks.proofs.StepBounds.{block-used, block_within, block_refused, end-lines, end_refused}
 use Rattle.capture_vectors.specs.Inner.Sizes.{input_room}
 
 -- ---- a step
 
-pub step_room : (p : Progress) (bytes out : List ℕ) (r : BlockAnswer) → r ≡ step_answer p bytes out → (step : Step) → r ≡ Stepped step
+pub step_room : (p : Progress) (bytes out : List ℕ) (r : Result Step Refusal) → r ≡ step_answer p bytes out → (step : Step) → r ≡ Ok step
     → (used : ℕ) → used + length bytes ≤ input_room → used + step.used ≤ input_room
 step_room p bytes out r d step u used h = omega (arith, h, block-used p bytes out r d step u)
 
-pub step-used : (used sum : ℕ) (step : Step) → sum ≡ used + step.used → (r : BlockAnswer) → r ≡ Stepped step → (p : Progress) (bytes out : List ℕ) → r ≡ step_answer p bytes out
+pub step-used : (used sum : ℕ) (step : Step) → sum ≡ used + step.used → (r : Result Step Refusal) → r ≡ Ok step → (p : Progress) (bytes out : List ℕ) → r ≡ step_answer p bytes out
     → sum ≤ used + length bytes
 step-used used sum step e r u p bytes out d = omega (arith, e, block-used p bytes out r d step u)
 
@@ -26,7 +26,7 @@ pub ruleset step-laws = (step_room, step-used, block_within, block_refused)
 
 -- ---- the end
 
-module _ (p : Progress) (rest out : List ℕ) (r : BlockAnswer) (d : r ≡ end_answer p rest out) (step : Step) (u : r ≡ Stepped step) (n : ℕ) (h : n ≤ input_room) where
+module _ (p : Progress) (rest out : List ℕ) (r : Result Step Refusal) (d : r ≡ end_answer p rest out) (step : Step) (u : r ≡ Ok step) (n : ℕ) (h : n ≤ input_room) where
   pub last-lines : n + step.lines < 2 ^ 64
   last-lines = omega (arith, h, end-lines p rest out r d step u)
 

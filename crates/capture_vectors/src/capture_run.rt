@@ -2,7 +2,7 @@
 ghost use Rattle.std.specs.Prelude.{◌≡◌, ◌+◌, ◌≤◌, length};
 ghost use Rattle.capture_vectors.specs.Inner.Sizes.{input_room};
 
-use capture_blocks::{BlockAnswer, Progress, Step, decode_block, decode_end, put_totals_of};
+use capture_blocks::{Progress, Step, decode_block, decode_end, put_totals_of};
 use text::words::part;
 
 // How far the capture is decoded: the bytes that the steps have used, and the lines in them.
@@ -53,12 +53,10 @@ fn take_step(run: Run, bytes: &[u8], out: &mut [u8]) -> Run
     requires refused_le_lines { run.refused ≤ run.lines }
     ensures { (result.used ≤ run.used + length bytes.now) × ((result.lines ≤ result.used) × (result.refused ≤ result.lines)) }
 {
-    let progress = run.progress;
-    let answer = decode_block(progress, bytes, out);
-    match answer {
+    match decode_block(run.progress, bytes, out) {
         // Never with these sizes: out has room for the longest block behind the longest line.
-        BlockAnswer::Refused(number) => run,
-        BlockAnswer::Stepped(step) => {
+        Err(_) => run,
+        Ok(step) => {
             print(out, step.written);
             advanced(run, step)
         }
@@ -83,14 +81,12 @@ fn feed(capture: &[u8], block: usize, out: &mut [u8]) -> Run
 fn finish(run: Run, rest: &[u8], out: &mut [u8])
     requires { (run.lines ≤ input_room) × (run.refused ≤ input_room) }
 {
-    let progress = run.progress;
-    let answer = decode_end(progress, rest, out);
-    match answer {
+    match decode_end(run.progress, rest, out) {
         // Never with this size of out.
-        BlockAnswer::Refused(number) => {}
-        BlockAnswer::Stepped(step) => {
+        Err(_) => {}
+        Ok(step) => {
             let written = put_totals_of(
-                progress,
+                run.progress,
                 (run.lines + step.lines) as u64,
                 (run.refused + step.refused) as u64,
                 step.written,

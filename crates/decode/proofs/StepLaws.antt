@@ -14,8 +14,8 @@ use Rattle.capture_decode.specs.Printed.{printed_each}
 use Rattle.capture_blocks.specs.Blocks.{step_of, end_of, totals_of, last_text}
 use Rattle.capture_blocks.specs.Answers.{step_in, ending, step_answer, step_over, end_answer, end_over}
 use Rattle.capture_blocks.specs.declared.Step.{Step}
-use Rattle.capture_blocks.specs.declared.BlockAnswer.{BlockAnswer}
-use Rattle.capture_blocks.specs.declared.BlockAnswer.TheVariants.{Stepped, Refused}
+use Rattle.std.specs.Prelude.{Result, Ok, Err}
+use Rattle.tlp.specs.declared.refusal.Refusal.{Refusal}
 use Rattle.capture_blocks.proofs.StepBounds.{step-bounded, block-step, block-used, block_within, block_refused, end_step, end-lines, end_refused}
 use Rattle.capture_blocks.proofs.RoomAnswers.{never-refused, block-answer, block-output, end-answer, last_most, last-length, last-laid}
 use Rattle.decode.specs.Turns.{advanced_run, after_step, kept_bytes, step_text, end_text}
@@ -35,7 +35,7 @@ after-counted run bytes most g few =
 
 -- ---- lay_step
 
-module _ (run : Run) (buf out : List ℕ) (n : ℕ) (h : n ≤ length buf) (few : n ≤ input_room) (room : length out ≡ output_room) (r : BlockAnswer) (d : r ≡ step_answer run.progress (part buf 0 n) out) where
+module _ (run : Run) (buf out : List ℕ) (n : ℕ) (h : n ≤ length buf) (few : n ≤ input_room) (room : length out ≡ output_room) (r : Result Step Refusal) (d : r ≡ step_answer run.progress (part buf 0 n) out) where
   abbrev bytes : List ℕ
   bytes = part buf 0 n
 
@@ -46,10 +46,10 @@ module _ (run : Run) (buf out : List ℕ) (n : ℕ) (h : n ≤ length buf) (few 
   fits = omega (arith, size, few, room)
 
   -- there is room
-  pub step-never : (number : ℕ) → r ≡ Refused number → ⊥
+  pub step-never : (refusal : Refusal) → r ≡ Err refusal → ⊥
   step-never = never-refused r (step_in (step_of run.progress bytes) (length bytes)) (d ∙ block-answer run.progress bytes out fits)
 
-  module _ (step : Step) (u : r ≡ Stepped step) where
+  module _ (step : Step) (u : r ≡ Ok step) where
     stepped : step ≡ step_in (step_of run.progress bytes) (length bytes)
     stepped = block-step run.progress bytes out r d step u
 
@@ -82,12 +82,12 @@ pub ruleset step-laws = (step-never, step-used, step-few, block_refused, step-te
 
 -- ---- lay_end
 
-module _ (run : Run) (rest out : List ℕ) (room : length out ≡ output_room) (r : BlockAnswer) (d : r ≡ end_answer run.progress rest out) where
+module _ (run : Run) (rest out : List ℕ) (room : length out ≡ output_room) (r : Result Step Refusal) (d : r ≡ end_answer run.progress rest out) where
   -- there is room
-  pub end-never : (number : ℕ) → r ≡ Refused number → ⊥
+  pub end-never : (refusal : Refusal) → r ≡ Err refusal → ⊥
   end-never = never-refused r (step_in (ending run.progress rest) (length rest)) (d ∙ end-answer run.progress rest out (omega (arith, room)))
 
-  module _ (step : Step) (u : r ≡ Stepped step) where
+  module _ (step : Step) (u : r ≡ Ok step) where
     pub end-few : step.lines ≤ input_room
     end-few = omega (arith, end-lines run.progress rest out r d step u)
 

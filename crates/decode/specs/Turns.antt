@@ -1,6 +1,6 @@
 -- What the program does, turn by turn: each turn reads once, behind the bytes that are kept, decodes and prints. What a
 -- reader must believe: all of it. That the texts, joined, are the decoding of the input is the theorem PrintsDecoding.
-use Rattle.std.specs.Prelude.{ℕ, zero, suc, ◌+◌, ◌-◌, ◌≡◌, Bool, true, false, List, [], ◌∷◌, ◌++◌, ℤ, pos, negsuc, length, drop}
+use Rattle.std.specs.Prelude.{ℕ, zero, suc, ◌+◌, ◌-◌, ◌≡◌, Bool, true, false, List, [], ◌∷◌, ◌++◌, Option, Some, None, length, drop}
 use Rattle.bits.specs.Choice.{pick}
 use Rattle.text.specs.Words.{part}
 use Rattle.capture_blocks.specs.Blocks.{step_of, end_of, last_text, joined}
@@ -115,26 +115,26 @@ printed blocks = joined (texts first_stage blocks)
 -- ---- what the system's calls decide
 
 -- how many bytes a read laid, as it answered
-abbrev pub count_of : ℤ → ℕ
-count_of (pos n) = n
-count_of (negsuc n) = 0
+abbrev pub count_of : Option ℕ → ℕ
+count_of None = 0
+count_of (Some n) = n
 
 -- the block: those bytes, behind the kept ones
-abbrev pub block_in : Run → List ℕ → ℤ → List ℕ
+abbrev pub block_in : Run → List ℕ → Option ℕ → List ℕ
 block_in run buf answered = part buf run.kept (run.kept + count_of answered)
 
 -- by what read answered: it failed; the input is at its end; it gave a block
-abbrev pub by_read : {A : Type 0} → A → A → A → ℤ → A
-by_read failed ended gave (negsuc n) = failed
-by_read failed ended gave (pos zero) = ended
-by_read failed ended gave (pos (suc n)) = gave
+abbrev pub by_read : {A : Type 0} → A → A → A → Option ℕ → A
+by_read failed ended gave None = failed
+by_read failed ended gave (Some zero) = ended
+by_read failed ended gave (Some (suc n)) = gave
 
 -- the stage after a turn
-abbrev pub turn_stage : Stage → List ℕ → ℤ → Stage
+abbrev pub turn_stage : Stage → List ℕ → Option ℕ → Stage
 turn_stage stage block answered = by_read stopped_stage (ended_stage stage) (next_stage stage block) answered
 
 -- and what is printed in it
-abbrev pub turn_text : Stage → List ℕ → ℤ → List ℕ
+abbrev pub turn_text : Stage → List ℕ → Option ℕ → List ℕ
 turn_text stage block answered = by_read [] [] (next_text stage block) answered
 
 -- where the program can stand: it read some blocks, and perhaps came to the end of the input; or a call failed
@@ -146,7 +146,7 @@ pub data Reached (stage : Stage) : Type 0 where
 -- what it may print, with the run to go on with: a turn's text, at a stage that asks for more; or the end's, and then
 -- no more is asked for
 pub data Prints (after : Run) (text : List ℕ) : Type 0 where
-  turn : (stage : Stage) (block : List ℕ) (answered : ℤ) → Reached stage → stage.run.more ≡ true
+  turn : (stage : Stage) (block : List ℕ) (answered : Option ℕ) → Reached stage → stage.run.more ≡ true
       → after ≡ (turn_stage stage block answered).run → text ≡ turn_text stage block answered → Prints after text
   end : (stage : Stage) → Reached stage → after ≡ ended_run stage.run → text ≡ end_text stage.run stage.kept
       → Prints after text

@@ -4,10 +4,6 @@
 mod run;
 mod turn;
 
-ghost use Rattle.std.specs.Prelude.{◌≡◌, ◌-◌, ◌<◌, length};
-ghost use Rattle.bits.specs.Choice.{pick};
-ghost use Rattle.decode.specs.Inner.Sizes.{output_room};
-
 use crate::run::first_run;
 use crate::turn::{finish, lay_read, print, read_block};
 
@@ -19,34 +15,18 @@ const TURNS: u64 = 140737488355328;
 // PRINTED_EACH bytes for each byte of the input's buffer: what decode_block asks for.
 const OUTPUT_ROOM: usize = 524288;
 
-fn output_buffer() -> [u8; OUTPUT_ROOM]
-    ensures { output_room ≡ length result }
-{
-    [0; OUTPUT_ROOM]
-}
-
-// After a turn: none where no more is asked for.
-fn turns_left(more: bool, turns: u64) -> u64
-    requires { 0 < turns }
-    ensures { result ≡ pick more (turns - 1) 0 }
-{
-    if more {
-        return turns - 1;
-    }
-    0
-}
-
 fn main(rt: HostRuntime) {
     let mut input = rt.stdin();
     let mut buf = io::large_buffer();
-    let mut out = output_buffer();
+    let mut out = [0u8; OUTPUT_ROOM];
     let mut run = first_run();
-    let mut turns: u64 = TURNS;
-    while 0 < turns {
+    for turn in 0..TURNS {
         let answered = read_block(&rt, &mut input, run.kept, &mut buf);
         let laid = lay_read(run, answered, &mut buf, &mut out);
         run = print(&rt, laid, &out);
-        turns = turns_left(run.more, turns);
+        if !run.more {
+            break;
+        }
     }
     finish(&rt, run, &buf, &mut out);
 }

@@ -34,14 +34,7 @@ pub(crate) fn first_run() -> Run
 pub(crate) fn ended(run: Run) -> Run
     ensures { result ≡ ended_run run }
 {
-    let progress = run.progress;
-    Run {
-        progress: progress,
-        kept: run.kept,
-        lines: run.lines,
-        refused: run.refused,
-        more: false,
-    }
+    Run { more: false, ..run }
 }
 
 // After a failure: nothing more is read or printed.
@@ -50,10 +43,8 @@ pub(crate) fn stopped() -> Run
 {
     Run {
         progress: Progress::Refused,
-        kept: 0,
-        lines: 0,
-        refused: 0,
         more: false,
+        ..first_run()
     }
 }
 
@@ -61,28 +52,22 @@ pub(crate) fn stopped() -> Run
 fn goes_on(progress: Progress) -> bool
     ensures { result ≡ goes_on progress }
 {
-    match progress {
-        Progress::First => true,
-        Progress::Lines(settings) => true,
-        Progress::Skipping(settings) => true,
-        Progress::Refused => false,
-    }
+    !matches!(progress, Progress::Refused)
 }
 
 // After a step that left so many bytes.
 pub(crate) fn advanced(run: Run, step: Step, kept: usize) -> Run
-    requires lines_le_lines_most { run.lines ≤ lines_most }
-    requires lines_le_input_room { step.lines ≤ input_room }
-    requires refused_le_lines { run.refused ≤ run.lines }
-    requires refused_le_lines_2 { step.refused ≤ step.lines }
+    requires lines_so_far { run.lines ≤ lines_most }
+    requires lines_of_the_step { step.lines ≤ input_room }
+    requires refused_so_far { run.refused ≤ run.lines }
+    requires refused_of_the_step { step.refused ≤ step.lines }
     ensures { result ≡ advanced_run run step.progress kept step.lines step.refused }
 {
-    let progress = step.progress;
     Run {
-        progress: progress,
-        kept: kept,
+        progress: step.progress,
+        kept,
         lines: run.lines + step.lines as u64,
         refused: run.refused + step.refused as u64,
-        more: goes_on(progress),
+        more: goes_on(step.progress),
     }
 }

@@ -1,15 +1,13 @@
 // A turn: a block is read, what it gives is laid into the output's buffer, and that is printed; and the end. Only
 // read_block reads and only print writes; both say so on standard error where that fails.
-ghost use Rattle.std.specs.Prelude.{◌≡◌, ◌⊎◌, ◌+◌, ◌-◌, ◌≤◌, length};
+ghost use Rattle.std.specs.Prelude.{◌≡◌, ◌⊎◌, ◌+◌, ◌-◌, ◌≤◌, length, IfSome};
 ghost use Rattle.text.specs.Words.{part};
-ghost use Rattle.decode.specs.Inner.Reads.{Moved};
 ghost use Rattle.decode.specs.Turns.{ended_run, stopped_run, after_step, kept_bytes, step_text, end_text};
 ghost use Rattle.decode.specs.Turns.{stage_in, block_in, turn_stage, turn_text, Reached, Prints};
 ghost use Rattle.decode.specs.Inner.Sizes.{input_room, output_room, lines_most, Counted, Ready};
 
 use crate::run::{Run, advanced, ended, stopped};
-use bits::choice::lesser;
-use capture_blocks::{BlockAnswer, decode_block, decode_end, put_totals_of};
+use capture_blocks::{decode_block, decode_end, put_totals_of};
 use std::io::{Read, Write};
 use text::buffer::move_to_front;
 use text::words::part;
@@ -19,23 +17,23 @@ fn say_failed(rt: &impl Eprint, what: &str, why: std::io::Error) {
     let _ = eprintln!(rt; "{what}: {why}");
 }
 
-// Reads once, behind the kept bytes, and says so where that fails: it then answers -1.
+// Reads once, behind the kept bytes: how many bytes it moved, none at the end of the input. Says so where it fails.
 pub(crate) fn read_block(
     rt: &impl Eprint,
     input: &mut impl Read,
     kept: usize,
     buf: &mut [u8],
-) -> isize
+) -> Option<usize>
     requires kept_in_bounds { kept ≤ length buf.old }
     requires buf_len { length buf.old ≡ input_room }
-    ensures answer { Moved (length buf.old - kept) result }
+    ensures answer { IfSome result (λ n. n ≤ length buf.old - kept) }
     ensures front { part buf.new 0 kept ≡ part buf.old 0 kept }
 {
     match input.read(&mut buf[kept..]) {
-        Ok(n) => n as isize,
+        Ok(n) => Some(n),
         Err(why) => {
             say_failed(rt, "read", why);
-            -1
+            None
         }
     }
 }
@@ -52,10 +50,7 @@ pub(crate) struct Laid {
 fn silent(run: Run) -> Laid
     ensures { result ≡ record { run = run; written = 0 } }
 {
-    Laid {
-        run: run,
-        written: 0,
-    }
+    Laid { run, written: 0 }
 }
 
 // Decodes the first n bytes of buf over the front of out, and moves what they leave to the front of buf.
@@ -68,16 +63,13 @@ fn lay_step(run: Run, buf: &mut [u8], n: usize, out: &mut [u8]) -> Laid
     ensures kept { part buf.new 0 result.run.kept ≡ kept_bytes run.progress (part buf.old 0 n) }
     ensures text { part out.new 0 result.written ≡ step_text run.progress (part buf.old 0 n) }
 {
-    let progress = run.progress;
-    let answer = decode_block(progress, &buf[0..n], out);
-    match answer {
+    match decode_block(run.progress, &buf[0..n], out) {
         // Never, which the proof shows: out has room for whatever n bytes print.
-        BlockAnswer::Refused(number) => silent(stopped()),
-        BlockAnswer::Stepped(step) => {
+        Err(_) => silent(stopped()),
+        Ok(step) => {
             move_to_front(buf, step.used, n);
-            let after = advanced(run, step, n - step.used);
             Laid {
-                run: after,
+                run: advanced(run, step, n - step.used),
                 written: step.written,
             }
         }
@@ -85,24 +77,25 @@ fn lay_step(run: Run, buf: &mut [u8], n: usize, out: &mut [u8]) -> Laid
 }
 
 // After a read behind the kept bytes that answered so: lays what it gave.
-pub(crate) fn lay_read(run: Run, answered: isize, buf: &mut [u8], out: &mut [u8]) -> Laid
+pub(crate) fn lay_read(run: Run, answered: Option<usize>, buf: &mut [u8], out: &mut [u8]) -> Laid
     requires ready { Ready run buf.old out.old }
-    requires moved { Moved (length buf.old - run.kept) answered }
+    requires moved { IfSome answered (λ n. n ≤ length buf.old - run.kept) }
     ensures stage { stage_in result.run buf.new
         ≡ turn_stage (stage_in run buf.old) (block_in run buf.old answered) answered }
     ensures text { part out.new 0 result.written
         ≡ turn_text (stage_in run buf.old) (block_in run buf.old answered) answered }
     ensures counted { Counted (run.lines + input_room) result.run }
 {
-    if answered < 0 {
-        return silent(stopped());
+    match answered {
+        None => silent(stopped()),
+        Some(n) => {
+            if n == 0 {
+                silent(ended(run))
+            } else {
+                lay_step(run, buf, run.kept + n, out)
+            }
+        }
     }
-    if answered == 0 {
-        return silent(ended(run));
-    }
-    let kept = run.kept;
-    let got = lesser(io::count(answered, buf), buf.len() - kept);
-    lay_step(run, buf, kept + got, out)
 }
 
 // Writes what was laid, and says so where that fails; gives the run to go on with.
@@ -126,18 +119,15 @@ pub(crate) fn lay_end(run: Run, rest: &[u8], out: &mut [u8]) -> Laid
     ensures run { result.run ≡ ended_run run }
     ensures text { part out.new 0 result.written ≡ end_text run rest.now }
 {
-    let progress = run.progress;
-    let answer = decode_end(progress, rest, out);
-    match answer {
+    match decode_end(run.progress, rest, out) {
         // Never, which the proof shows: out has room for a line.
-        BlockAnswer::Refused(number) => silent(stopped()),
-        BlockAnswer::Stepped(step) => {
+        Err(_) => silent(stopped()),
+        Ok(step) => {
             let last = advanced(run, step, 0);
-            let written = put_totals_of(progress, last.lines, last.refused, step.written, out);
-            let after = ended(run);
+            let at = step.written;
             Laid {
-                run: after,
-                written: written,
+                run: ended(run),
+                written: put_totals_of(run.progress, last.lines, last.refused, at, out),
             }
         }
     }

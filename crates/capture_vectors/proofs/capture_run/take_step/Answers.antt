@@ -11,5 +11,5 @@ advanced-requires c = record {
   step_refused_le_lines = search step-laws depth 12 fits 4000;
 }
 
-pub returns-in-Stepped : goal.returns-in-Stepped
-returns-in-Stepped c = (search step-laws depth 12 fits 4000, (search rules, search rules))
+pub returns-in-Ok : goal.returns-in-Ok
+returns-in-Ok c = (search step-laws depth 12 fits 4000, (search rules, search rules))

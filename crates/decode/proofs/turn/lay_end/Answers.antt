@@ -3,10 +3,10 @@ use borrow.Author.Rules.{rules}
 use Rattle.decode.proofs.turn.lay_end.Goals as goal
 
 pub advanced-last-requires : goal.advanced-last-requires
-advanced-last-requires c = record { lines_le_lines_most = search rules; lines_le_input_room = search end-laws depth 12 fits 4000; refused_le_lines = search rules; refused_le_lines_2 = search end-laws depth 12 fits 4000 }
+advanced-last-requires c = record { lines_so_far = search rules; lines_of_the_step = search end-laws depth 12 fits 4000; refused_so_far = search rules; refused_of_the_step = search end-laws depth 12 fits 4000 }
 
-pub returns-in-Refused : goal.returns-in-Refused
-returns-in-Refused c = absurd (search end-laws depth 12 fits 4000)
+pub returns-in-Err : goal.returns-in-Err
+returns-in-Err c = absurd (search end-laws depth 12 fits 4000)
 
-pub returns-in-Stepped : goal.returns-in-Stepped
-returns-in-Stepped c = record { run = search rules; text = search end-laws depth 12 fits 4000 }
+pub returns-in-Ok : goal.returns-in-Ok
+returns-in-Ok c = record { run = search rules; text = search end-laws depth 12 fits 4000 }

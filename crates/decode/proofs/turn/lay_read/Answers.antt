@@ -1,20 +1,26 @@
+use Prim.Native.Nat.{◌-◌, ◌≤◌}
+use mathlib.Core.Path.{◌≡◌, ap, ◌∙◌}
+use Rattle.std.specs.Prelude.{Some}
+use lib.ListN.{length}
 use native.Mathlib.Omega.{arith}
 use Rattle.decode.specs.Inner.Sizes.{lines_most}
 use Rattle.decode.proofs.TurnLaws.{read-laws, gave-laid}
 use Rattle.decode.proofs.turn.lay_read.Goals as goal
 
-pub returns-then-answered-lt0 : goal.returns-then-answered-lt0
-returns-then-answered-lt0 c = record { stage = search read-laws; text = search read-laws; counted = search read-laws }
+pub returns-in-None : goal.returns-in-None
+returns-in-None c = record { stage = search read-laws; text = search read-laws; counted = search read-laws }
 
-pub returns-then-answered-eq0 : goal.returns-then-answered-eq0
-returns-then-answered-eq0 c = record { stage = search read-laws; text = search read-laws; counted = search read-laws }
+pub returns-then-n-eq0 : goal.returns-then-n-eq0
+returns-then-n-eq0 c =
+    let none : c.args.answered ≡ Some 0 = c.in-Some.is ∙ ap Some c.if-n-eq0.true in
+    record { stage = search read-laws; text = search read-laws; counted = search read-laws }
 
-pub returns : goal.returns
-returns c =
+pub returns-else-n-eq0 : goal.returns-else-n-eq0
+returns-else-n-eq0 c =
     let pre = c.requires.ready in
     let laid = c.lay_step in
+    let moved : c.in-Some.n ≤ length c.args.buf.now - c.args.run.kept = rw c.in-Some.is at c.requires.moved in
     let gave =
-    gave-laid c.args.answered c.ranges.answered c.args.run c.args.buf.now c.requires.moved c.count.result c.lesser-got.result c.count.ensures.value c.lesser-got.ensures.0
-    c.if-answered-lt0.false c.if-answered-eq0.false lines_most laid.result.run laid.new.buf _ pre.counted (omega arith) pre.input
+    gave-laid c.args.run c.args.buf.now c.in-Some.n moved c.if-n-eq0.false lines_most laid.result.run laid.new.buf _ pre.counted (omega (arith, pre.counted.kept)) pre.input
     laid.ensures.run laid.ensures.kept laid.ensures.text in
-    record { stage = gave.0; text = gave.1.0; counted = gave.1.1 }
+    record { stage = rw c.in-Some.is gave.0; text = rw c.in-Some.is gave.1.0; counted = gave.1.1 }

@@ -5,13 +5,13 @@ use Rattle.decode.proofs.turn.lay_step.Goals as goal
 pub overflow_sub-n : goal.overflow_sub-n
 overflow_sub-n c = search step-laws depth 12 fits 4000
 
-pub advanced-after-requires : goal.advanced-after-requires
-advanced-after-requires c = record { lines_le_lines_most = search rules; lines_le_input_room = search step-laws depth 12 fits 4000; refused_le_lines = search rules; refused_le_lines_2 = search step-laws depth 12 fits 4000 }
+pub advanced-requires : goal.advanced-requires
+advanced-requires c = record { lines_so_far = search rules; lines_of_the_step = search step-laws depth 12 fits 4000; refused_so_far = search rules; refused_of_the_step = search step-laws depth 12 fits 4000 }
 
-pub returns-in-Refused : goal.returns-in-Refused
-returns-in-Refused c = absurd (search step-laws depth 12 fits 4000)
+pub returns-in-Err : goal.returns-in-Err
+returns-in-Err c = absurd (search step-laws depth 12 fits 4000)
 
-pub returns-in-Stepped : goal.returns-in-Stepped
-returns-in-Stepped c =
+pub returns-in-Ok : goal.returns-in-Ok
+returns-in-Ok c =
     let pre = c.requires in
     record { run = search step-laws depth 12 fits 4000; kept = search step-laws depth 12 fits 4000; text = search step-laws depth 12 fits 4000 }
