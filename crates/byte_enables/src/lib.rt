@@ -7,7 +7,7 @@ ghost use Rattle.byte_enables.specs.Enables.{first_kinds, last_kinds, enables_al
 
 // What the rules for enables look at: one request's address, its length in doublewords, and the enables of its first
 // and last doubleword.
-#[derive(Clone, Copy)]
+#[derive(Clone, Copy, Debug, PartialEq, Eq)]
 pub struct Access {
     pub address: u64,
     pub length: u32,
@@ -15,109 +15,85 @@ pub struct Access {
     pub last: u8,
 }
 
-// One of four kinds.
-fn one_of(n: u8, a: u8, b: u8, c: u8, d: u8) -> bool
-    ensures { result ≡ one_of (a ∷ b ∷ c ∷ d ∷ []) n }
-{
-    if n == a {
-        return true;
-    }
-    if n == b {
-        return true;
-    }
-    if n == c {
-        return true;
-    }
-    n == d
-}
-
 fn first_kind(n: u8) -> bool
     ensures { result ≡ one_of first_kinds n }
 {
-    one_of(n, 0b1111, 0b1110, 0b1100, 0b1000)
+    matches!(n, 0b1111 | 0b1110 | 0b1100 | 0b1000)
 }
 
 fn last_kind(n: u8) -> bool
     ensures { result ≡ one_of last_kinds n }
 {
-    one_of(n, 0b1111, 0b0111, 0b0011, 0b0001)
+    matches!(n, 0b1111 | 0b0111 | 0b0011 | 0b0001)
 }
 
 // Whether a request of this length may have these enables.
+#[tactic(auto, unfolding(crate::specs::Enables::enables_allowed))]
 pub fn enables_allowed(a: Access) -> bool
     ensures { result ≡ enables_allowed a }
 {
-    if a.length == 1 {
-        return a.last == 0b0000;
+    match a.length {
+        1 => a.last == 0b0000,
+        2 => a.first != 0b0000 && a.last != 0b0000,
+        _ => first_kind(a.first) && last_kind(a.last),
     }
-    if a.length == 2 {
-        if a.first == 0b0000 {
-            return false;
-        }
-        return a.last != 0b0000;
-    }
-    if first_kind(a.first) {
-        return last_kind(a.last);
-    }
-    false
 }
 
 // How many bytes into the window the first enabled one stands.
+#[tactic(auto, unfolding(crate::specs::Enables::off))]
 pub fn off_of(a: Access) -> u32
     ensures { result ≡ off a }
 {
     if a.first % 16 == 0b0000 {
-        return 0;
+        0
+    } else {
+        bits::count::clear_below(a.first)
     }
-    bits::count::clear_below(a.first)
 }
 
 // The enables of the last doubleword.
 fn ending_of(a: Access) -> u8
     ensures { result ≡ ending a }
 {
-    if a.length == 1 {
-        return a.first;
-    }
-    a.last
+    if a.length == 1 { a.first } else { a.last }
 }
 
 // How many bytes before the window's end the last enabled one stands.
+#[tactic(auto, unfolding(crate::specs::Enables::trail))]
 pub fn trail_of(a: Access) -> u32
     ensures { result ≡ trail a }
 {
     let n = ending_of(a);
     if n % 16 == 0b0000 {
-        return 3;
+        3
+    } else {
+        bits::count::clear_above(n)
     }
-    bits::count::clear_above(n)
 }
 
 // The enables of doubleword i of a request.
+#[tactic(auto, unfolding(crate::specs::Enables::enables_at))]
 pub fn enables_at(a: Access, i: u32) -> u8
     ensures { result ≡ enables_at a i }
 {
     if a.length <= i {
-        return 0b0000;
+        0b0000
+    } else if i == 0 {
+        a.first % 16
+    } else if i + 1 == a.length {
+        a.last % 16
+    } else {
+        0b1111
     }
-    if i == 0 {
-        return a.first % 16;
-    }
-    if i + 1 == a.length {
-        return a.last % 16;
-    }
-    0b1111
 }
 
 // Whether byte k of the window is enabled.
+#[tactic(auto, unfolding(crate::specs::Enables::enabled, crate::specs::Enables::enables_at))]
 pub fn enabled_at(a: Access, k: u64) -> bool
     ensures { result ≡ enabled a k }
 {
     let i = k / 4;
-    if a.length as u64 <= i {
-        return false;
-    }
-    (enables_at(a, i as u32) >> (k % 4)) % 2 == 1
+    i < a.length as u64 && (enables_at(a, i as u32) >> (k % 4)) % 2 == 1
 }
 
 // The enabled bytes of the first m doublewords: every byte, but for those clear at the two ends.
@@ -125,20 +101,17 @@ fn enabled_below(a: Access, m: u64) -> u64
     ensures { result ≡ enabled_bytes a 0 m }
 {
     let n = a.length as u64;
-    if m == 0 {
-        return 0;
-    }
-    if n == 0 {
+    if m == 0 || n == 0 {
         return 0;
     }
     let first = bits::count::set_bits(a.first) as u64;
     if m < n {
-        return first + 4 * (m - 1);
+        first + 4 * (m - 1)
+    } else if n == 1 {
+        first
+    } else {
+        first + 4 * (n - 2) + bits::count::set_bits(a.last) as u64
     }
-    if n == 1 {
-        return first;
-    }
-    first + 4 * (n - 2) + bits::count::set_bits(a.last) as u64
 }
 
 // The enabled bytes of n doublewords from doubleword p on.
