@@ -5,7 +5,6 @@ use calls_printed::print::{print_bad, print_record, print_words};
 use reads::table::{Table, tag_limit};
 use reads_rules::origin::Origin;
 use reads_rules::read::Read;
-use reads_rules::state::State;
 use reads_slots::record::{put_state, record_at};
 use text::fields::{Field, line_start};
 use text::number::{MOST_32, MOST_64};
@@ -30,7 +29,7 @@ pub(crate) fn run_record(line: &[u8], t: Table) {
 
 fn force(read: Read, tag: u64, mut t: Table) -> Table {
     let mut opened = t.opened;
-    put_state(&mut opened, &mut t.words, tag as usize, State::Open(read));
+    put_state(&mut opened, &mut t.words, tag as usize, Some(read));
     t.opened = opened;
     print_words(b"force");
     t

@@ -7,6 +7,7 @@ use native.Mathlib.Omega.{arith}
 use lib.Dec.{eqb, leb, ltb}
 use lib.ListN.{length}
 use borrow.Author.Tests.{le-ltb, le-leb, lt-leb, eq-eqb, ne_eqb, leb-false, not-true, not-false}
+use Rattle.std.specs.Prelude.{Option, Some}
 use Rattle.bits.specs.Choice.{pick}
 use Rattle.tlp.specs.Rows.{Row, row, first}
 use Rattle.tlp.specs.Packets.{access_of}
@@ -17,11 +18,10 @@ use Rattle.tlp_write.specs.Inner.Lay.{lay_answer, lay_out}
 use Rattle.tlp_write.specs.declared.WriteAnswer.{WriteAnswer}
 use Rattle.tlp_write.specs.declared.WriteAnswer.TheVariants.{Written, Refused as Unwritten}
 use Rattle.tlp.specs.declared.packet.Packet.{Packet}
+use Rattle.reads_rules.specs.declared.read.Read.{Read}
 use Rattle.reads_rules.specs.declared.request.ReadRequest.{ReadRequest}
 use Rattle.reads_rules.proofs.RequestLaws.{read-type}
 use Rattle.reads_rules.specs.declared.origin.Origin.{Origin}
-use Rattle.reads_rules.specs.declared.state.State.{State}
-use Rattle.reads_rules.specs.declared.state.State.TheVariants.{Open}
 use Rattle.reads_slots.specs.Records.{opened_with, words_with}
 use Rattle.reads_rules.specs.States.{is_open}
 use Rattle.reads.specs.declared.table.Table.{Table}
@@ -43,11 +43,11 @@ module _ (rs : List Row) where
   unfolding first
   limit-next tag n m r e h q = rw (← e, lt-leb n tag h) q
 
-  pub open-here : (r : Bool) (x : State) → r ≡ is_open x → r ≡ true → 21 ≡ first (row 21 (is_open x) ∷ rs)
+  pub open-here : (r : Bool) (x : Option Read) → r ≡ is_open x → r ≡ true → 21 ≡ first (row 21 (is_open x) ∷ rs)
   unfolding first
   open-here r x e h = rw (← e, h)
 
-  pub open_next : (r : Bool) (x : State) (m : ℕ) → r ≡ is_open x → r ≡ false → m ≡ first rs → m ≡ first (row 21 (is_open x) ∷ rs)
+  pub open_next : (r : Bool) (x : Option Read) (m : ℕ) → r ≡ is_open x → r ≡ false → m ≡ first rs → m ≡ first (row 21 (is_open x) ∷ rs)
   unfolding first
   open_next r x m e h q = rw (← e, h) q
 
@@ -104,7 +104,7 @@ module _ (n : ℕ) (shared : Bool) where
 
 pub ruleset window-laws = (window-earlier, window-shared, window-clear, shares-seen)
 
-pub number_is : (o : Origin) (opened words : List ℕ) (q : ReadRequest) (tag room n m : ℕ) (v : Bool) (x : State) → v ≡ valid_table (table_of o opened words) → x ≡ state_at (table_of o opened words) tag
+pub number_is : (o : Origin) (opened words : List ℕ) (q : ReadRequest) (tag room n m : ℕ) (v : Bool) (x : Option Read) → v ≡ valid_table (table_of o opened words) → x ≡ state_at (table_of o opened words) tag
     → m ≡ first (rows_before24 v o x q tag room) → n ≡ pick (eqb m 0) (first (row 24 (shares_open (table_of o opened words) q) ∷ [])) m
     → n ≡ first (rows_before12 (table_of o opened words) q tag room)
 number_is o opened words q tag room n m v x e f g h = h ∙ go m (rw (e, f) at g)
@@ -159,7 +159,7 @@ module _ (t : Table) (q : ReadRequest) (tag room n : ℕ) (e : n ≡ first (rows
 -- what is stored, and that nothing is
 
 module _ (t : Table) (q : ReadRequest) (tag : ℕ) where
-  stored-opened : (a : OpenAnswer) → opens a ≡ true → with_state t tag (Open (record { request = q; taken = 0 })) ≡ table_opened a t q tag
+  stored-opened : (a : OpenAnswer) → opens a ≡ true → with_state t tag (Some (record { request = q; taken = 0 })) ≡ table_opened a t q tag
   stored-opened (Opened size) h = refl
   stored-opened (Refused n) h = absurd (true≢false (sym h))
 
@@ -172,8 +172,8 @@ module _ (o : Origin) (opened words : List ℕ) (q : ReadRequest) (tag room n : 
     answer-is : a ≡ open_answer (first (open_rows (table_of o opened words) q tag room space)) (size_of (header_packet o q tag))
     answer-is = g ∙ sym (answers (table_of o opened words) q tag room n e space)
 
-    pub open_done : (opened' words' : List ℕ) → not r ≡ false → opened' ≡ opened_with opened tag (Open (record { request = q; taken = 0 }))
-        → words' ≡ words_with words tag (Open (record { request = q; taken = 0 })) → record { table = table_of o opened' words'; answer = a } ≡ open_call (table_of o opened words) q tag room space
+    pub open_done : (opened' words' : List ℕ) → not r ≡ false → opened' ≡ opened_with opened tag (Some (record { request = q; taken = 0 }))
+        → words' ≡ words_with words tag (Some (record { request = q; taken = 0 })) → record { table = table_of o opened' words'; answer = a } ≡ open_call (table_of o opened words) q tag room space
     unfolding open_call with_state
     open_done opened' words' k f l = rw (← answer-is, ← stored-opened (table_of o opened words) q tag a (sym h ∙ not-false r k), f, l)
 

@@ -5,15 +5,15 @@ use mathlib.Core.Bool.{Bool, true, false, not}
 use mathlib.Core.List.{List}
 use native.Mathlib.Omega.{arith}
 use borrow.Author.Tests.{le-leb, lt-leb, not-true, not-false}
+use Rattle.std.specs.Prelude.{Option, None}
 use Rattle.scans.specs.Belows.{all_below, any_below, sum_below}
 use Rattle.tlp.specs.Rows.{first}
 use Rattle.tlp.specs.Settings.{settings_listed}
 use Rattle.tlp.specs.declared.settings.Settings.{Settings}
+use Rattle.reads_rules.specs.declared.read.Read.{Read}
 use Rattle.reads_rules.specs.declared.origin.Origin.{Origin}
 use Rattle.reads_rules.specs.declared.request.ReadRequest.{ReadRequest}
 use Rattle.reads_words.specs.Capacity.{capacity}
-use Rattle.reads_rules.specs.declared.state.State.{State}
-use Rattle.reads_rules.specs.declared.state.State.TheVariants.{Free}
 use Rattle.reads_rules.specs.States.{is_open}
 use Rattle.reads_slots.specs.Records.{state_below, opened_with, words_with, valid_at, shares_at, owed_at}
 use Rattle.reads_words.proofs.SetLaws.{without-empty}
@@ -45,7 +45,7 @@ module _ (o : Origin) (opened words : List ℕ) where
     valid-listed n b m e q = rw (q, ← k, ← h, not-false r m, e)
 
   module _ (n : ℕ) (e : n ≡ tag_limit o.settings) where
-    pub state-seen : (tag : ℕ) (x : State) → x ≡ state_below n opened words tag → x ≡ state_at (table_of o opened words) tag
+    pub state-seen : (tag : ℕ) (x : Option Read) → x ≡ state_below n opened words tag → x ≡ state_at (table_of o opened words) tag
     unfolding state_at
     state-seen tag x h = rw e at h
 
@@ -60,17 +60,17 @@ module _ (o : Origin) (opened words : List ℕ) where
 pub ruleset seen-laws = (valid-unlisted, valid-listed, state-seen, shares-seen)
 
 -- the records of two tags, in either order
-pub with-order : (t : Table) (u v : ℕ) (x y : State) → (u ≡ v → ⊥) → with_state (with_state t u x) v y ≡ with_state (with_state t v y) u x
+pub with-order : (t : Table) (u v : ℕ) (x y : Option Read) → (u ≡ v → ⊥) → with_state (with_state t u x) v y ≡ with_state (with_state t v y) u x
 unfolding with_state
 with-order t u v x y n = rw (opened-order u v n t.opened x y, words-order u v n t.words x y)
 
 -- the record of one tag twice: the last counts
-pub with-last : (t : Table) (u : ℕ) (x y : State) → with_state (with_state t u x) u y ≡ with_state t u y
+pub with-last : (t : Table) (u : ℕ) (x y : Option Read) → with_state (with_state t u x) u y ≡ with_state t u y
 unfolding with_state
 with-last t u x y = rw (opened-last u t.opened x y, words_last u t.words x y)
 
 -- a free tag freed in a new table
-pub new-freed : (o : Origin) (u : ℕ) → with_state (new_table o) u Free ≡ new_table o
+pub new-freed : (o : Origin) (u : ℕ) → with_state (new_table o) u None ≡ new_table o
 unfolding with_state new_table
 new-freed o u = rw (without-empty (capacity / 64) u, clear-zeros (4 * capacity) u)
 
@@ -98,7 +98,7 @@ module _ (t : Table) (tag : ℕ) (v : Bool) (e : v ≡ valid_table t) where
     unfolding first
     withdraw-20 k = rw (← e, not-false v h, ← f, le-leb n tag k)
 
-    module _ (k : tag < n) (x : State) (g : x ≡ state_at t tag) (r : Bool) (l : r ≡ is_open x) where
+    module _ (k : tag < n) (x : Option Read) (g : x ≡ state_at t tag) (r : Bool) (l : r ≡ is_open x) where
       pub withdraw-25 : not r ≡ true → 25 ≡ first (withdraw_rows t tag)
       unfolding first
       withdraw-25 m = rw (← e, not-false v h, ← f, lt-leb n tag k, ← g, ← l, not-true r m)
@@ -110,7 +110,7 @@ module _ (t : Table) (tag : ℕ) (v : Bool) (e : v ≡ valid_table t) where
 pub ruleset withdraw-numbers = (withdraw-11, withdraw-20, withdraw-25, withdraw-0)
 
 module _ (o : Origin) (opened words : List ℕ) (tag n : ℕ) (number_is : n ≡ first (withdraw_rows (table_of o opened words) tag)) where
-  pub withdraw-done : (opened' words' : List ℕ) → n ≡ 0 → opened' ≡ opened_with opened tag Free → words' ≡ words_with words tag Free
+  pub withdraw-done : (opened' words' : List ℕ) → n ≡ 0 → opened' ≡ opened_with opened tag None → words' ≡ words_with words tag None
       → record { table = table_of o opened' words'; answer = Withdrawn } ≡ withdraw_call (table_of o opened words) tag
   unfolding withdraw_call with_state
   withdraw-done opened' words' h l m = rw (l, m, ← number_is, h)

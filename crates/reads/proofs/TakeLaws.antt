@@ -7,6 +7,7 @@ use mathlib.Core.List.{List}
 use lib.Dec.{ltb, leb, eqb}
 use lib.ListN.{length, take, drop}
 use borrow.Author.Tests.{not-true, not-false, eqb-true, ltb-false, le-leb}
+use Rattle.std.specs.Prelude.{Option, Some}
 use Rattle.bits.specs.Choice.{pick}
 use Rattle.bits.specs.Word.{byte}
 use Rattle.tlp.specs.Rows.{first}
@@ -27,8 +28,6 @@ use Rattle.reads_rules.specs.declared.read.Read.{Read}
 use Rattle.reads_rules.specs.declared.piece.Piece.{Piece}
 use Rattle.reads_rules.specs.declared.origin.Origin.{Origin}
 use Rattle.reads_rules.specs.Pieces.{of_completions, is_completion, piece_of}
-use Rattle.reads_rules.specs.declared.state.State.{State}
-use Rattle.reads_rules.specs.declared.state.State.TheVariants.{Open}
 use Rattle.reads.specs.declared.table.Table.{Table}
 use Rattle.reads_slots.specs.Records.{opened_with, words_with}
 use Rattle.reads.specs.declared.table.Taking.{Taking}
@@ -43,19 +42,19 @@ use Rattle.reads.specs.Inner.Steps.{takes, record_given, other_answer, kept, pie
 
 -- ---- what an answer does to table and store
 
-pub advanced-case : (x v y : State) (n : ℕ) → x ≡ v → y ≡ advanced v n → y ≡ advanced x n
+pub advanced-case : (x v y : Option Read) (n : ℕ) → x ≡ v → y ≡ advanced v n → y ≡ advanced x n
 advanced-case x v y n e q = rw e q
 
-pub advance-fits : (x : State) (r : Read) (n : ℕ) → x ≡ Open r → (read_in x).taken + n ≤ (read_in x).request.access.length → r.taken + n ≤ r.request.access.length
+pub advance-fits : (x : Option Read) (r : Read) (n : ℕ) → x ≡ Some r → (read_in x).taken + n ≤ (read_in x).request.access.length → r.taken + n ≤ r.request.access.length
 advance-fits x r n e h = rw e at h
 
 pub fits-when : (a : TakeAnswer) (m n : ℕ) → (a ≡ More → m ≤ n) → a ≡ More → m ≤ n
 fits-when a m n f e = f e
 
-pub given-more : (a : TakeAnswer) (x y : State) (n : ℕ) → a ≡ More → y ≡ advanced x n → y ≡ record_given a x n
+pub given-more : (a : TakeAnswer) (x y : Option Read) (n : ℕ) → a ≡ More → y ≡ advanced x n → y ≡ record_given a x n
 given-more a x y n e q = rw e q
 
-pub given-case : (a v : TakeAnswer) (x y : State) (n : ℕ) → a ≡ v → y ≡ record_given v x n → y ≡ record_given a x n
+pub given-case : (a v : TakeAnswer) (x y : Option Read) (n : ℕ) → a ≡ v → y ≡ record_given v x n → y ≡ record_given a x n
 given-case a v x y n e q = rw e q
 
 pub store-case : (a v : TakeAnswer) (r : Read) (payload store store' : List ℕ) → a ≡ v → store' ≡ store_given v r payload store → store' ≡ store_given a r payload store
@@ -63,7 +62,7 @@ store-case a v r payload store store' e q = rw e q
 
 -- ---- a completion
 
-module _ (o : Origin) (x : State) (c : Piece) (a : TakeAnswer) where
+module _ (o : Origin) (x : Option Read) (c : Piece) (a : TakeAnswer) where
   pub piece-outcome : (room : ℕ) → a ≡ piece_answer o x c room → record { answer = a; length = c.length } ≡ piece_outcome o x c room
   piece-outcome room e = rw e
 
@@ -78,7 +77,7 @@ unlaid-is : (n : ℕ) (laid store : List ℕ) → (n ≡ 0 → ⊥) → store �
 unlaid-is zero laid store h = absurd (h refl)
 unlaid-is (suc n) laid store h = refl
 
-module _ (o : Origin) (x : State) (bytes : List ℕ) (p : Packet) (c : Piece) (n : ℕ) (ep : p ≡ completion_packet bytes) (ec : c ≡ piece_of p) (en : n ≡ first (completion_rows o.settings.mps c.length bytes)) where
+module _ (o : Origin) (x : Option Read) (bytes : List ℕ) (p : Packet) (c : Piece) (n : ℕ) (ep : p ≡ completion_packet bytes) (ec : c ≡ piece_of p) (en : n ≡ first (completion_rows o.settings.mps c.length bytes)) where
   piece_is : c ≡ piece_at bytes
   piece_is = ec ∙ ap piece_of ep
 
@@ -130,7 +129,7 @@ module _ (settings : Settings) (bytes : List ℕ) (n : ℕ) (e : n ≡ first (re
 
 pub ruleset other-laws = (other-unread, other-29)
 
-module _ (v : Bool) (o : Origin) (x : State) (bytes : List ℕ) where
+module _ (v : Bool) (o : Origin) (x : Option Read) (bytes : List ℕ) where
   pub outcome-11 : (room : ℕ) → not v ≡ true → record { answer = Refused 11; length = 0 } ≡ take_outcome v o x bytes room
   unfolding take_outcome
   outcome-11 room h = rw (not-true v h)
@@ -264,7 +263,7 @@ more-piece true false n zero r h = let z : ◌≡◌ {A = ℕ} 0 1 = cc in absur
 more-piece true false n (suc m) r h = let z : ◌≡◌ {A = ℕ} 0 1 = cc in absurd (omega arith)
 more-piece false b n m r h = let z : ◌≡◌ {A = ℕ} 0 1 = cc in absurd (omega arith)
 
-pub more-fits-in : (t : Table) (tag : ℕ) (bytes : List ℕ) (room : ℕ) (d : Outcome) (x : State) → d ≡ outcome_of t tag bytes room → x ≡ state_at t tag → d.answer ≡ More
+pub more-fits-in : (t : Table) (tag : ℕ) (bytes : List ℕ) (room : ℕ) (d : Outcome) (x : Option Read) → d ≡ outcome_of t tag bytes room → x ≡ state_at t tag → d.answer ≡ More
     → (read_in x).taken + d.length ≤ (read_in x).request.access.length
 unfolding take_outcome completion_outcome
 more-fits-in t tag bytes room d x e k h =
@@ -294,7 +293,7 @@ module _ (t : Table) (bytes : List ℕ) where
   abbrev packet : Packet
   packet = packet_at (type_at (byte bytes 0)) bytes
 
-  abbrev seen : State
+  abbrev seen : Option Read
   seen = state_at t (byte bytes 10)
 
   -- the table with what is stored of an outcome
@@ -364,7 +363,7 @@ module _ (t : Table) (bytes : List ℕ) where
       go true e false h = other-left h store
       go false e b h = refl
 
-module _ (t : Table) (tag : ℕ) (v : Bool) (x : State) (e : v ≡ valid_table t) (f : x ≡ state_at t tag) (bytes : List ℕ) where
+module _ (t : Table) (tag : ℕ) (v : Bool) (x : Option Read) (e : v ≡ valid_table t) (f : x ≡ state_at t tag) (bytes : List ℕ) where
   pub outcome-seen : (room : ℕ) (d : Outcome) → d ≡ take_outcome v t.origin x bytes room → d ≡ outcome_of t tag bytes room
   outcome-seen room d g = rw (e, f) at g
 
@@ -377,7 +376,7 @@ module _ (o : Origin) (opened words bytes : List ℕ) (tag : ℕ) (e : tag ≡ b
     outcome-is = ap (outcome_taking (table_of o opened words) bytes) (rw e at g) ∙ call-is (table_of o opened words) bytes room
 
     -- x is the record of the tag, y what is put in its place
-    pub take_done : (opened' words' : List ℕ) (x y : State) → not r ≡ false → x ≡ state_at (table_of o opened words) tag → y ≡ record_given d.answer x d.length
+    pub take_done : (opened' words' : List ℕ) (x y : Option Read) → not r ≡ false → x ≡ state_at (table_of o opened words) tag → y ≡ record_given d.answer x d.length
         → opened' ≡ opened_with opened tag y → words' ≡ words_with words tag y → record { table = table_of o opened' words'; answer = d.answer } ≡ take_call (table_of o opened words) bytes room
     unfolding with_state
     take_done opened' words' x y n k q l m = same ∙ outcome-is

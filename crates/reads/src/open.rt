@@ -13,7 +13,6 @@ use crate::table::{Opening, Table, state_at, tag_limit, valid_table};
 use reads_rules::origin::Origin;
 use reads_rules::read::Read;
 use reads_rules::request::{ReadRequest, request_number, request_packet};
-use reads_rules::state::{State, is_open};
 use reads_rules::window::place_number;
 use reads_slots::open_tags::window_taken;
 use reads_slots::record::put_state;
@@ -22,7 +21,14 @@ use reads_words::words::Words;
 use tlp_write::{WriteAnswer, lay_packet};
 
 // The first that holds of open's rows before 24; 0 where none does. x is the tag's record.
-fn number_before_24(valid: bool, o: Origin, x: State, q: ReadRequest, tag: u32, room: u64) -> u32
+fn number_before_24(
+    valid: bool,
+    o: Origin,
+    x: Option<Read>,
+    q: ReadRequest,
+    tag: u32,
+    room: u64,
+) -> u32
     ensures { result ≡ first (rows_before24 valid o x q tag room) }
 {
     if !valid {
@@ -36,7 +42,7 @@ fn number_before_24(valid: bool, o: Origin, x: State, q: ReadRequest, tag: u32, 
     if tag_limit(settings) <= tag {
         return 20;
     }
-    if is_open(x) {
+    if x.is_some() {
         return 21;
     }
     place_number(settings, q, room)
@@ -130,7 +136,7 @@ pub fn open_lent(
     if !opens(answer) {
         return answer;
     }
-    let x = State::Open(Read {
+    let x = Some(Read {
         request: q,
         taken: 0,
     });

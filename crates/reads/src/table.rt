@@ -8,7 +8,7 @@ ghost use Rattle.reads.specs.Lent.{withdrawal_of};
 use crate::answer::{MakeAnswer, OpenAnswer, OwedAnswer, WithdrawAnswer};
 use reads_answers::TakeAnswer;
 use reads_rules::origin::Origin;
-use reads_rules::state::{State, is_open};
+use reads_rules::read::Read;
 use reads_slots::open_tags::{all_valid, tags_owed};
 use reads_slots::record::{put_state, state_below};
 use reads_words::CAPACITY;
@@ -70,7 +70,7 @@ pub(crate) fn valid_table(o: Origin, opened: &TagSet, words: &Words) -> bool
 }
 
 // The record of a tag, from the parts of a table.
-pub(crate) fn state_at(o: Origin, opened: &TagSet, words: &Words, tag: u32) -> State
+pub(crate) fn state_at(o: Origin, opened: &TagSet, words: &Words, tag: u32) -> Option<Read>
     ensures { result ≡ state_at (table_of o opened.now words.now) tag }
 {
     state_below(tag_limit(o.settings) as usize, opened, words, tag as usize)
@@ -87,7 +87,7 @@ fn withdraw_number(o: Origin, opened: &TagSet, words: &Words, tag: u32) -> u32
         return 20;
     }
     let x = state_at(o, opened, words, tag);
-    if !is_open(x) {
+    if !x.is_some() {
         return 25;
     }
     0
@@ -102,7 +102,7 @@ pub fn withdraw_lent(o: Origin, opened: &mut TagSet, words: &mut Words, tag: u32
     if n != 0 {
         return WithdrawAnswer::Refused(n);
     }
-    put_state(opened, words, tag as usize, State::Free);
+    put_state(opened, words, tag as usize, None);
     WithdrawAnswer::Withdrawn
 }
 

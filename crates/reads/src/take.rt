@@ -16,7 +16,6 @@ use reads_answers::{TakeAnswer, piece_answer, read_in};
 use reads_rules::origin::Origin;
 use reads_rules::piece::{Piece, piece_of};
 use reads_rules::read::Read;
-use reads_rules::state::State;
 use reads_slots::record::put_state;
 use reads_store::store_piece;
 use reads_words::tag_set::TagSet;
@@ -27,15 +26,15 @@ use tlp_read::completion::{completion_number, completion_packet, has_completion}
 use tlp_read::read_number;
 
 // A record after n doublewords more.
-fn advance(x: State, n: u32) -> State
+fn advance(x: Option<Read>, n: u32) -> Option<Read>
     requires { (read_in x).taken + n ≤ (read_in x).request.access.length }
     ensures { result ≡ advanced x n }
 {
     match x {
-        State::Free => State::Free,
-        State::Open(r) => {
+        None => None,
+        Some(r) => {
             let q = r.request;
-            State::Open(Read {
+            Some(Read {
                 request: q,
                 taken: r.taken + n,
             })
@@ -51,15 +50,15 @@ pub(crate) struct Outcome {
 }
 
 // The record after an answer; n is the completion's length.
-fn record_given(a: TakeAnswer, x: State, n: u32) -> State
+fn record_given(a: TakeAnswer, x: Option<Read>, n: u32) -> Option<Read>
     requires { a ≡ TakeAnswer.More → (read_in x).taken + n ≤ (read_in x).request.access.length }
     ensures { result ≡ record_given a x n }
 {
     match a {
         TakeAnswer::More => advance(x, n),
-        TakeAnswer::Done => State::Free,
-        TakeAnswer::Failed(_) => State::Free,
-        TakeAnswer::Poisoned => State::Free,
+        TakeAnswer::Done => None,
+        TakeAnswer::Failed(_) => None,
+        TakeAnswer::Poisoned => None,
         TakeAnswer::Unread(_) => x,
         TakeAnswer::Refused(_) => x,
     }
@@ -92,7 +91,7 @@ fn other_answer(settings: Settings, bytes: &[u8]) -> TakeAnswer
 }
 
 // What a completion that was read does; x is the record of its tag.
-fn piece_outcome(o: Origin, x: State, c: Piece, payload: &[u8], store: &mut [u8]) -> Outcome
+fn piece_outcome(o: Origin, x: Option<Read>, c: Piece, payload: &[u8], store: &mut [u8]) -> Outcome
     ensures value { result ≡ piece_outcome o x c (length store.old) }
     ensures store_after { store.new ≡ piece_laid o x c payload.now store.old }
 {
@@ -105,7 +104,7 @@ fn piece_outcome(o: Origin, x: State, c: Piece, payload: &[u8], store: &mut [u8]
 }
 
 // What bytes do as a completion.
-fn completion_outcome(o: Origin, x: State, bytes: &[u8], store: &mut [u8]) -> Outcome
+fn completion_outcome(o: Origin, x: Option<Read>, bytes: &[u8], store: &mut [u8]) -> Outcome
     ensures value { result ≡ completion_outcome o x bytes.now (length store.old) }
     ensures store_after { store.new ≡ completion_laid o x bytes.now store.old }
 {
@@ -124,7 +123,7 @@ fn completion_outcome(o: Origin, x: State, bytes: &[u8], store: &mut [u8]) -> Ou
 
 // What bytes do; x is the record of the tag that byte 10 names. A valid table has listed settings, so a completion is
 // not read with a second test of these.
-fn take_outcome(valid: bool, o: Origin, x: State, bytes: &[u8], store: &mut [u8]) -> Outcome
+fn take_outcome(valid: bool, o: Origin, x: Option<Read>, bytes: &[u8], store: &mut [u8]) -> Outcome
     ensures value { result ≡ take_outcome valid o x bytes.now (length store.old) }
     ensures store_after { store.new ≡ take_laid valid o x bytes.now store.old }
 {

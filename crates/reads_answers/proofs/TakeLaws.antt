@@ -5,6 +5,7 @@ use mathlib.Core.Bool.{Bool, true, false, not, ◌&&◌, and-eq-true_iff}
 use native.Mathlib.Omega.{arith}
 use lib.Dec.{eqb, leb}
 use borrow.Author.Tests.{eq-eqb, ne_eqb, leb-true, not-true, not-false}
+use Rattle.std.specs.Prelude.{Option}
 use Rattle.bits.specs.Choice.{pick}
 use Rattle.tlp.specs.Rows.{first, NoneHold}
 use Rattle.tlp.proofs.RowLaws.{first-none}
@@ -16,18 +17,17 @@ use Rattle.reads_rules.specs.Windows.{holds_window}
 use Rattle.reads_rules.specs.Pieces.{is_completion, piece_of}
 use Rattle.reads_rules.specs.Continuations.{cut_allowed, legal, succeeds, status_bad, differs, reported}
 use Rattle.reads_rules.specs.Validity.{owed_of}
-use Rattle.reads_rules.specs.declared.state.State.{State}
 use Rattle.reads_rules.specs.States.{is_open}
 use Rattle.reads_answers.specs.declared.TakeAnswer.{TakeAnswer}
 use Rattle.reads_answers.specs.declared.TakeAnswer.TheVariants.{More, Done, Failed, Poisoned, Refused}
 use Rattle.reads_answers.specs.Takes.{read_in, piece_rows, own_rows, outcome, number_or, piece_answer, packet_answer}
 
-pub read-case : (x v : State) (r : Read) → x ≡ v → r ≡ read_in v → r ≡ read_in x
+pub read-case : (x v : Option Read) (r : Read) → x ≡ v → r ≡ read_in v → r ≡ read_in x
 read-case x v r e q = rw e q
 
 -- ---- 30 to 34
 
-module _ (o : Origin) (x : State) (c : Piece) (room : ℕ) where
+module _ (o : Origin) (x : Option Read) (c : Piece) (room : ℕ) where
   pub number-requester : (c.requester ≡ o.requester → ⊥) → 30 ≡ first (piece_rows o x c room)
   unfolding first
   number-requester h = rw (ne_eqb c.requester o.requester h)
@@ -93,7 +93,7 @@ pub ruleset outcome-laws = (outcome-failed, outcome-poisoned, outcome-done, outc
 
 -- ---- the answer to a completion
 
-module _ (o : Origin) (x : State) (c : Piece) (room n : ℕ) (e : n ≡ first (piece_rows o x c room)) where
+module _ (o : Origin) (x : Option Read) (c : Piece) (room n : ℕ) (e : n ≡ first (piece_rows o x c room)) where
   pub answer-number : (n ≡ 0 → ⊥) → Refused n ≡ piece_answer o x c room
   unfolding piece_answer
   answer-number k = rw (← e) (go n k)
@@ -110,7 +110,7 @@ pub ruleset answer-laws = (answer-number, answer-outcome)
 
 -- ---- the answer to a packet
 
-module _ (o : Origin) (x : State) (p : Packet) (room : ℕ) where
+module _ (o : Origin) (x : Option Read) (p : Packet) (room : ℕ) where
   pub answer-other : is_completion p ≡ false → packet_answer o x p room ≡ Refused 29
   unfolding packet_answer first
   answer-other h = rw h
@@ -137,7 +137,7 @@ cut-end rcb l p n b e =
     let k = leb-true n (l - p) g.1 in
     omega arith
 
-module _ (o : Origin) (x : State) (p : Packet) (room : ℕ) (a : TakeAnswer) (e : a ≡ packet_answer o x p room) (h : a ≡ More) where
+module _ (o : Origin) (x : Option Read) (p : Packet) (room : ℕ) (a : TakeAnswer) (e : a ≡ packet_answer o x p room) (h : a ≡ More) where
   more-means : (first (own_rows o x p room) ≡ 0) × (outcome (read_in x) (piece_of p) ≡ More)
   unfolding packet_answer
   more-means = more-number (first (own_rows o x p room)) (outcome (read_in x) (piece_of p)) (sym e ∙ h)
@@ -158,6 +158,6 @@ module _ (o : Origin) (x : State) (p : Packet) (room : ℕ) (a : TakeAnswer) (e 
   unfolding legal cut_allowed
   more-fits = cut-end o.settings.rcb (read_in x).request.access.length (read_in x).taken (piece_of p).length _ ((and-eq-true_iff _ _).0 is_legal).0
 
-pub more-le : (o : Origin) (x : State) (p : Packet) (room : ℕ) (a : TakeAnswer) (c : Piece) (r : Read) → a ≡ packet_answer o x p room → a ≡ More → c ≡ piece_of p → r ≡ read_in x
+pub more-le : (o : Origin) (x : Option Read) (p : Packet) (room : ℕ) (a : TakeAnswer) (c : Piece) (r : Read) → a ≡ packet_answer o x p room → a ≡ More → c ≡ piece_of p → r ≡ read_in x
     → r.taken + c.length ≤ r.request.access.length
 more-le o x p room a c r e h f k = rw (f, k) (more-fits o x p room a e h)

@@ -11,7 +11,6 @@ use reads_rules::origin::Origin;
 use reads_rules::piece::Piece;
 use reads_rules::read::Read;
 use reads_rules::request::ReadRequest;
-use reads_rules::state::{State, is_open};
 use reads_rules::validity::owed_of;
 use reads_rules::window::holds_window;
 use tlp::refusal::Refusal;
@@ -29,12 +28,12 @@ pub enum TakeAnswer {
 }
 
 // The read that a record holds; zeros where it is free.
-pub fn read_in(x: State) -> Read
+pub fn read_in(x: Option<Read>) -> Read
     ensures { result ≡ read_in x }
 {
     match x {
-        State::Open(r) => r,
-        State::Free => Read {
+        Some(r) => r,
+        None => Read {
             request: ReadRequest {
                 access: Access {
                     address: 0,
@@ -52,13 +51,13 @@ pub fn read_in(x: State) -> Read
 }
 
 // The first of 30 to 34 that holds; 0 where none does. A failing status is answered before 33 and 34 are looked at.
-fn piece_number(o: Origin, x: State, c: Piece, room: u64) -> u32
+fn piece_number(o: Origin, x: Option<Read>, c: Piece, room: u64) -> u32
     ensures { result ≡ first (piece_rows o x c room) }
 {
     if c.requester != o.requester {
         return 30;
     }
-    if !is_open(x) {
+    if !x.is_some() {
         return 30;
     }
     let r = read_in(x);
@@ -98,7 +97,7 @@ fn outcome(r: Read, c: Piece) -> TakeAnswer
 }
 
 // The answer to a completion that was read.
-pub fn piece_answer(o: Origin, x: State, c: Piece, room: u64) -> TakeAnswer
+pub fn piece_answer(o: Origin, x: Option<Read>, c: Piece, room: u64) -> TakeAnswer
     ensures { result ≡ piece_answer o x c room }
 {
     let n = piece_number(o, x, c, room);

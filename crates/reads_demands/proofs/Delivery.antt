@@ -4,12 +4,12 @@ use Prim.Native.Nat.{ℕ, zero, suc, ◌+◌, ◌-◌, ◌*◌, ◌≤◌, ◌<�
 use mathlib.Core.Path.{◌≡◌, refl, sym, ◌∙◌}
 use mathlib.Core.Logic.{◌⊎◌, inl, inr, ◌≢◌}
 use mathlib.Core.Bool.{Bool, true, false, true≢false}
-use mathlib.Core.Option.{some}
 use mathlib.Core.List.{List, [], ◌∷◌, ◌++◌, append_assoc}
 use native.Mathlib.Omega.{arith}
 use lib.Dec.{eqb, ltb}
 use lib.ListN.{length, get_or, length-append}
 use borrow.Author.Tests.{eqb-true, eqb-false, eq-eqb, ne_eqb, ltb-false, lt-ltb, le-ltb}
+use Rattle.std.specs.Prelude.{Option, Some, None}
 use Rattle.bits.specs.Choice.{pick}
 use Rattle.tlp.specs.Rows.{first}
 use Rattle.tlp_write.specs.Layout.{size_of}
@@ -22,8 +22,6 @@ use Rattle.reads_rules.specs.Validity.{owed_of}
 use Rattle.reads_rules.specs.Continuations.{legal}
 use Rattle.reads_rules.specs.Pieces.{piece_in}
 use Rattle.reads_store.specs.Stores.{stored}
-use Rattle.reads_rules.specs.declared.state.State.{State}
-use Rattle.reads_rules.specs.declared.state.State.TheVariants.{Free, Open}
 use Rattle.reads.specs.declared.table.Table.{Table}
 use Rattle.reads.specs.declared.answer.OpenAnswer.{OpenAnswer}
 use Rattle.reads.specs.declared.answer.OpenAnswer.TheVariants.{Opened, Refused as OpenRefused}
@@ -71,7 +69,7 @@ module _ (o : Origin) (tag : ℕ) (q : ReadRequest) where
 
 -- ---- calls that fall between: none changes the tag's record
 
-open-keeps : (t : Table) (q : ReadRequest) (tag room space : ℕ) (r : Read) → state_at t tag ≡ Open r → open_change q (open_call t q tag room space).answer ≡ keeps
+open-keeps : (t : Table) (q : ReadRequest) (tag room space : ℕ) (r : Read) → state_at t tag ≡ Some r → open_change q (open_call t q tag room space).answer ≡ keeps
 open-keeps t q tag room space r e = go (open_call t q tag room space).answer refl
   where
     go : (x : OpenAnswer) → (open_call t q tag room space).answer ≡ x → open_change q x ≡ keeps
@@ -92,13 +90,13 @@ withdraw-keeps : (x : WithdrawAnswer) → 0 < withdraw_number x → withdraw_cha
 withdraw-keeps Withdrawn h = absurd (omega arith)
 withdraw-keeps (WithdrawRefused n) h = refl
 
-own-keeps : (t : Table) (tag : ℕ) (r : Read) (c : Call) → state_at t tag ≡ Open r → Harmless tag (answered t c) → event_tag (answered t c) ≡ tag → event_change (answered t c) ≡ keeps
+own-keeps : (t : Table) (tag : ℕ) (r : Read) (c : Call) → state_at t tag ≡ Some r → Harmless tag (answered t c) → event_tag (answered t c) ≡ tag → event_change (answered t c) ≡ keeps
 own-keeps t tag r (opening q u store out) e h f = open-keeps t q u (length store) (length out) r (rw f e)
 own-keeps t tag r (taking b store) e h f = take-keeps b (take_call t b (length store)).answer (h f)
 own-keeps t tag r (withdrawing u) e h f = withdraw-keeps (withdraw_call t u).answer (h f)
 own-keeps t tag r asking e h f = refl
 
-harmless-keeps : (t : Table) (tag : ℕ) (r : Read) (c : Call) → state_at t tag ≡ Open r → Harmless tag (answered t c) → change tag (answered t c) ≡ keeps
+harmless-keeps : (t : Table) (tag : ℕ) (r : Read) (c : Call) → state_at t tag ≡ Some r → Harmless tag (answered t c) → change tag (answered t c) ≡ keeps
 unfolding change
 harmless-keeps t tag r c e h = go (eqb (event_tag (answered t c)) tag) refl
   where
@@ -117,15 +115,15 @@ apart-outside q r k e h = go (ltb q.start (window_end r)) refl
     go false f = inr (omega (arith, ltb-false q.start (window_end r) f))
 
 -- of another tag's window, each byte of an open tag's is outside
-other-outside : {o : Origin} {t : Table} → Sound o t → (tag u : ℕ) → tag ≢ u → (r : Read) → state_at t tag ≡ Open r → (k : ℕ) → k < 4 * r.request.access.length
+other-outside : {o : Origin} {t : Table} → Sound o t → (tag u : ℕ) → tag ≢ u → (r : Read) → state_at t tag ≡ Some r → (k : ℕ) → k < 4 * r.request.access.length
     → Outside (state_at t u) (r.request.start + k)
 other-outside {t = t} g tag u ne r e k h = go (state_at t u) refl
   where
-    go : (x : State) → state_at t u ≡ x → Outside x (r.request.start + k)
-    go Free f = tt
-    go (Open r₂) f = apart-outside r.request r₂.request k (apart g tag u ne r r₂ e f) h
+    go : (x : Option Read) → state_at t u ≡ x → Outside x (r.request.start + k)
+    go None f = tt
+    go (Some r₂) f = apart-outside r.request r₂.request k (apart g tag u ne r r₂ e f) h
 
-module _ {o : Origin} {t : Table} (g : Sound o t) (tag : ℕ) (r : Read) (is : state_at t tag ≡ Open r) where
+module _ {o : Origin} {t : Table} (g : Sound o t) (tag : ℕ) (r : Read) (is : state_at t tag ≡ Some r) where
   take-window : (b store : List ℕ) → Harmless tag (take_event b store (take_call t b (length store)).answer) → (k : ℕ) → k < 4 * r.request.access.length
       → get_or (take_store t b store) (r.request.start + k) 0 ≡ get_or store (r.request.start + k) 0
   take-window b store h k l = go (true-or-false (eqb (piece_in b).header.tag tag))
@@ -137,7 +135,7 @@ module _ {o : Origin} {t : Table} (g : Sound o t) (tag : ℕ) (r : Read) (is : s
 
   -- the store last left, after such a call
   other-store : (last : List ℕ) (c : Call) → Harmless tag (answered t c) → SameWindow r.request last (lent c)
-      → SameWindow r.request last (some (or_last last (left t c)))
+      → SameWindow r.request last (Some (or_last last (left t c)))
   other-store last (opening q u store out) h w = w
   other-store last (taking b store) h w = ((frame t b store).size ∙ w.0, λ k l. take-window b store h k l ∙ w.1 k l)
   other-store last (withdrawing u) h w = (refl, λ k l. refl)
@@ -146,7 +144,7 @@ module _ {o : Origin} {t : Table} (g : Sound o t) (tag : ℕ) (r : Read) (is : s
 -- ---- where the delivery stands: the pieces so far are in the store last left
 record Mid (o : Origin) (q : ReadRequest) (tag : ℕ) (opened : List ℕ) (sofar : List (List ℕ)) (t : Table) (last : List ℕ) : Type 0 where
   sound : Sound o t
-  is : state_at t tag ≡ Open (taken_to q (doublewords sofar))
+  is : state_at t tag ≡ Some (taken_to q (doublewords sofar))
   laid : length (payloads_joined sofar) ≡ 4 * doublewords sofar
   size : length last ≡ length opened
   window : (k : ℕ) → k < 4 * q.access.length → get_or last (q.start + k) 0 ≡ window_byte q (doublewords sofar) (payloads_joined sofar) opened k
@@ -155,7 +153,7 @@ record Mid (o : Origin) (q : ReadRequest) (tag : ℕ) (opened : List ℕ) (sofar
 record Arrives (q : ReadRequest) (tag : ℕ) (t : Table) (opened : List ℕ) (all : List (List ℕ)) (mid : List Item) (b store : List ℕ) : Type 0 where
   taken : AllMore t mid
   done : (take_call (run t (calls mid)) b (length store)).answer ≡ Done
-  free : state_at (next (run t (calls mid)) (taking b store)) tag ≡ Free
+  free : state_at (next (run t (calls mid)) (taking b store)) tag ≡ None
   bytes : (k : ℕ) → k < 4 * q.access.length
       → get_or (take_store (run t (calls mid)) b store) (q.start + k) 0 ≡ pick (enabled q.access k) (get_or (payloads_joined all) k 0) (get_or opened (q.start + k) 0)
 
@@ -174,7 +172,7 @@ module _ (o : Origin) (q : ReadRequest) (tag : ℕ) (opened : List ℕ) (sofar :
 
   -- ---- a piece is taken
   module _ (limit : length opened ≤ store_limit) (room : window_end q ≤ length opened) (b store : List ℕ) (clean! : clean_packet o tag (taken_to q (doublewords sofar)) b ≡ true)
-      (legal! : legal o (taken_to q (doublewords sofar)) (piece_in b) ≡ true) (w : SameWindow q last (some store)) where
+      (legal! : legal o (taken_to q (doublewords sofar)) (piece_in b) ≡ true) (w : SameWindow q last (Some store)) where
     own-tag : (piece_in b).header.tag ≡ tag
     own-tag = (clean-bytes o tag (taken_to q (doublewords sofar)) b clean!).piece.matches
 

@@ -3,10 +3,10 @@
 use Prim.Native.Nat.{ℕ, ◌+◌, ◌-◌, ◌≤◌, ◌<◌}
 use mathlib.Core.Path.{◌≡◌, refl, ap, ◌∙◌}
 use mathlib.Core.Logic.{◌⊎◌, inl, inr, ◌≢◌}
-use mathlib.Core.Option.{some}
 use mathlib.Core.List.{List, []}
 use native.Mathlib.Omega.{arith}
 use lib.ListN.{length, get_or}
+use Rattle.std.specs.Prelude.{Some}
 use Rattle.tlp_write.specs.Layout.{bytes_of}
 use Rattle.reads_rules.specs.declared.read.Read.{Read}
 use Rattle.reads_rules.specs.declared.piece.Piece.{Piece}
@@ -141,6 +141,6 @@ unchanged t (opening q tag store out) h =
     record { table = k.0; store = refl; out = k.1 }
 unchanged t (taking b store) h =
     let k = take-unchanged t b store h in
-    record { table = k.0; store = ap some k.1; out = refl }
+    record { table = k.0; store = ap Some k.1; out = refl }
 unchanged t (withdrawing tag) h = record { table = withdraw-unchanged t tag h; store = refl; out = refl }
 unchanged t asking h = record { table = refl; store = refl; out = refl }

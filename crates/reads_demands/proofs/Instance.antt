@@ -2,12 +2,12 @@
 use Prim.Native.Nat.{ℕ, ◌+◌, ◌*◌, ◌<◌}
 use mathlib.Core.Path.{◌≡◌, refl, sym, ap, ◌∙◌}
 use mathlib.Core.Bool.{Bool, true, not, ◌||◌, ◌&&◌, and-eq-true_iff}
-use mathlib.Core.Option.{Option, none, some}
 use mathlib.Core.List.{List, [], ◌∷◌, ◌++◌}
 use lib.Dec.{eqb, ltb}
 use lib.ListN.{length, drop, get_or}
 use lib.Seq.{get_or-take, get_or-drop}
 use borrow.Author.Tests.{eqb-true, eq-eqb, ltb-true}
+use Rattle.std.specs.Prelude.{Option, Some, None}
 use Rattle.bits.specs.Same.{same_list}
 use Rattle.bits.proofs.SameLaws.{same-yes}
 use Rattle.bits.specs.Count.{clear_below, clear_above}
@@ -80,15 +80,15 @@ is-undisturbed tag t (piece b store ∷ is) h = is-undisturbed tag (next t (taki
 -- ---- the same store, as a test
 
 abbrev same_window : ReadRequest → List ℕ → Option (List ℕ) → Bool
-same_window q last none = true
-same_window q last (some store) = eqb (length store) (length last) && same_list (window_of q store) (window_of q last)
+same_window q last None = true
+same_window q last (Some store) = eqb (length store) (length last) && same_list (window_of q store) (window_of q last)
 
 window-byte : (q : ReadRequest) (store : List ℕ) (k : ℕ) → k < 4 * q.access.length → get_or (window_of q store) k 0 ≡ get_or store (q.start + k) 0
 window-byte q store k h = get_or-take (4 * q.access.length) (drop q.start store) k 0 h ∙ get_or-drop q.start store k 0
 
 is-same-window : (q : ReadRequest) (last : List ℕ) (x : Option (List ℕ)) → same_window q last x ≡ true → SameWindow q last x
-is-same-window q last none h = tt
-is-same-window q last (some store) h =
+is-same-window q last None h = tt
+is-same-window q last (Some store) h =
     let p = (and-eq-true_iff (eqb (length store) (length last)) (same_list (window_of q store) (window_of q last))).0 h in
     let e = same-yes (window_of q store) (window_of q last) p.1 in
     (eqb-true _ _ p.0, λ k l. sym (window-byte q store k l) ∙ (ap (λ (w : List ℕ). get_or w k 0) e ∙ window-byte q last k l))

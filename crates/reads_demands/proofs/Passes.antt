@@ -8,6 +8,7 @@ use mathlib.Core.List.{List, ◌∷◌, ◌++◌}
 use native.Mathlib.Omega.{arith}
 use lib.Dec.{eqb}
 use borrow.Author.Tests.{eqb-true, eqb-false, eq-eqb, not-false}
+use Rattle.std.specs.Prelude.{Option, Some, None}
 use Rattle.bits.specs.Choice.{pick}
 use Rattle.tlp.specs.Rows.{row, first, NoneHold}
 use Rattle.tlp.proofs.RowLaws.{some_of, none_of, first-none, none_first, none-split}
@@ -19,8 +20,6 @@ use Rattle.reads_rules.specs.Windows.{holds_window}
 use Rattle.reads_rules.specs.Validity.{owed_of}
 use Rattle.reads_rules.specs.Pieces.{is_completion, piece_of, piece_in}
 use Rattle.reads_rules.specs.Continuations.{succeeds, legal, reported}
-use Rattle.reads_rules.specs.declared.state.State.{State}
-use Rattle.reads_rules.specs.declared.state.State.TheVariants.{Free, Open}
 use Rattle.reads_rules.specs.States.{is_open}
 use Rattle.reads.specs.declared.table.Table.{Table}
 use Rattle.reads_answers.specs.declared.TakeAnswer.{TakeAnswer}
@@ -71,9 +70,9 @@ packet-number t p room =
     let x = state_at t (tag_of p) in
     number-or (first (own_rows t.origin x p room)) (outcome (read_in x) (piece_of p)) (outcome-says (read_in x) (piece_of p)).0
 
-open-read : (x : State) → is_open x ≡ true → x ≡ Open (read_in x)
-open-read Free e = absurd (false≢true e)
-open-read (Open r) e = refl
+open-read : (x : Option Read) → is_open x ≡ true → x ≡ Some (read_in x)
+open-read None e = absurd (false≢true e)
+open-read (Some r) e = refl
 
 module _ (t : Table) (b : List ℕ) (room : ℕ) where
   read_number_lem : (n : ℕ) → n ≡ first (read_rows t.origin.settings b) → take_number (answer_taking t (answer_of n (packet_in b)) room).answer
@@ -133,8 +132,8 @@ module _ (t : Table) (b : List ℕ) (room : ℕ) where
       let m = k.matches in
       let same = fields-same r (piece_in b) m.traffic_class m.attributes in
       let z = (and-eq-true_iff (eqb (first (read_rows t.origin.settings b)) 0) (is_completion (packet_in b))).0 m.reads in
-      let n : NoneHold (own_rows t.origin (Open r) (packet_in b) room) = (rw z.1, (rw (eq-eqb (piece_in b).requester t.origin.requester m.requester), (same, (fields-status (piece_in b) k.status, (k.continues, (k.holds, tt)))))) in
-      rw (k.valid, eqb-true (first (read_rows t.origin.settings b)) 0 z.0, m.is_open, none_first (own_rows t.origin (Open r) (packet_in b) room) n)
+      let n : NoneHold (own_rows t.origin (Some r) (packet_in b) room) = (rw z.1, (rw (eq-eqb (piece_in b).requester t.origin.requester m.requester), (same, (fields-status (piece_in b) k.status, (k.continues, (k.holds, tt)))))) in
+      rw (k.valid, eqb-true (first (read_rows t.origin.settings b)) 0 z.0, m.is_open, none_first (own_rows t.origin (Some r) (packet_in b) room) n)
 
   -- ---- what its answer says
 

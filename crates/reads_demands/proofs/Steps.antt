@@ -1,14 +1,13 @@
 -- One call: what it makes of the table, and what its answer makes of a tag's record by the calls alone.
 use Prim.Native.Nat.{ℕ, ◌+◌}
 use mathlib.Core.Path.{◌≡◌, refl, ◌∙◌}
-use mathlib.Core.Option.{Option, none, some}
 use mathlib.Core.List.{List, [], ◌∷◌, ◌++◌}
 use native.Mathlib.Omega.{arith}
 use lib.ListN.{length}
+use Rattle.std.specs.Prelude.{Option, Some, None}
+use Rattle.reads_rules.specs.declared.read.Read.{Read}
 use Rattle.reads_rules.specs.declared.request.ReadRequest.{ReadRequest}
 use Rattle.reads_rules.specs.Pieces.{piece_in}
-use Rattle.reads_rules.specs.declared.state.State.{State}
-use Rattle.reads_rules.specs.declared.state.State.TheVariants.{Free, Open}
 use Rattle.reads.specs.declared.table.Table.{Table}
 use Rattle.reads.specs.declared.answer.OpenAnswer.{OpenAnswer}
 use Rattle.reads.specs.declared.answer.OpenAnswer.TheVariants.{Opened, Refused as OpenRefused}
@@ -27,11 +26,11 @@ use Rattle.reads_demands.specs.Demand3.{next, answered}
 use Rattle.reads_demands.proofs.OneTake.{take-table}
 
 -- what a change makes of a record
-abbrev pub after_change : Change → State → State
+abbrev pub after_change : Change → Option Read → Option Read
 after_change keeps x = x
-after_change (opens q) x = Open (record { request = q; taken = 0 })
+after_change (opens q) x = Some (record { request = q; taken = 0 })
 after_change (adds b) x = advanced x (piece_in b).length
-after_change closes x = Free
+after_change closes x = None
 
 -- ---- by the calls alone
 
@@ -45,8 +44,8 @@ record-change : (c : Change) (r : Option ReadRequest) (bs : List (List ℕ))
 unfolding doublewords
 record-change keeps r bs = refl
 record-change (opens q) r bs = refl
-record-change (adds b) none bs = refl
-record-change (adds b) (some q) bs = rw (doublewords-end bs b)
+record-change (adds b) None bs = refl
+record-change (adds b) (Some q) bs = rw (doublewords-end bs b)
 record-change closes r bs = refl
 
 pub record-step : (e : Event) (h : History) (u : ℕ) → records_of (e ∷ h) u ≡ after_change (change u e) (records_of h u)
@@ -60,7 +59,7 @@ abbrev pub moved : Change → Table → ℕ → Table
 moved keeps t tag = t
 moved (opens q) t tag = with_state t tag (after_change (opens q) (state_at t tag))
 moved (adds b) t tag = with_state t tag (after_change (adds b) (state_at t tag))
-moved closes t tag = with_state t tag Free
+moved closes t tag = with_state t tag None
 
 open-moved : (x : OpenAnswer) (t : Table) (q : ReadRequest) (tag : ℕ) → table_opened x t q tag ≡ moved (open_change q x) t tag
 open-moved (Opened size) t q tag = refl

@@ -32,8 +32,8 @@ pub fn request_packet(requester: u16, tag: u8, q: ReadRequest) -> Packet
         digest: 0,
         route: Route::Address(a.address),
         kind: Kind::MemoryRead(Request {
-            requester: requester,
-            tag: tag,
+            requester,
+            tag,
             length: a.length,
             first: a.first,
             last: a.last,
@@ -45,31 +45,15 @@ pub fn request_packet(requester: u16, tag: u8, q: ReadRequest) -> Packet
 pub(crate) fn fields_over(q: ReadRequest) -> bool
     ensures { result ≡ fields_over q }
 {
-    let a = q.access;
-    if 8 <= q.traffic_class {
-        return true;
-    }
-    if 8 <= q.attributes {
-        return true;
-    }
-    if 16 <= a.first {
-        return true;
-    }
-    16 <= a.last
+    8 <= q.traffic_class || 8 <= q.attributes || 16 <= q.access.first || 16 <= q.access.last
 }
 
 // The writer's first place for 6.
+#[tactic(auto, using(crate::proofs::RequestLaws::given_law))]
 fn given_bad(q: ReadRequest) -> bool
     ensures { result ≡ given_bad q }
 {
-    let a = q.access;
-    if fields_over(q) {
-        return true;
-    }
-    if outside_of(1024, a.length) {
-        return true;
-    }
-    a.address % 4 != 0
+    fields_over(q) || outside_of(1024, q.access.length) || q.access.address % 4 != 0
 }
 
 // The first of 6, 7 and 8 that holds; 0 where none does.

@@ -8,6 +8,7 @@ use mathlib.Core.List.{List}
 use lib.Dec.{eqb, ltb}
 use lib.ListN.{get_or}
 use borrow.Author.Tests.{not-true, not-false, eqb-true, eqb-false, ltb-true, ltb-false}
+use Rattle.std.specs.Prelude.{Option, Some, None}
 use Rattle.bits.specs.Choice.{pick}
 use Rattle.bits.specs.Count.{clear_below}
 use Rattle.bits.specs.Field.{bit}
@@ -24,8 +25,6 @@ use Rattle.reads_words.specs.Words.{read_at}
 use Rattle.reads_words.proofs.SetLaws.{contains-over}
 use Rattle.reads_words.proofs.LowestLaws.{lowest-below, lowest-in, lowest-out, lowest-other, lowest-less, word_in, word_over}
 use Rattle.reads_words.proofs.WordLaws.{at-fits}
-use Rattle.reads_rules.specs.declared.state.State.{State}
-use Rattle.reads_rules.specs.declared.state.State.TheVariants.{Free, Open}
 use Rattle.reads_slots.specs.Slots.{valid_state, shares_in, owed_in}
 use Rattle.reads_slots.specs.Records.{record_at, state_below, valid_at, shares_at, owed_at}
 use Rattle.reads_slots.specs.Inner.WordScans.{record_in, valid_in, shares_in_word, owed_in_word}
@@ -39,7 +38,7 @@ read_small words tag =
     let k = (at-fits words tag).length_fits in
     omega arith
 
-record-small : (b : Bool) (words : List ℕ) (tag : ℕ) → owed_in (pick b (Open (read_at words tag)) Free) ≤ 2 ^ 32
+record-small : (b : Bool) (words : List ℕ) (tag : ℕ) → owed_in (pick b (Some (read_at words tag)) None) ≤ 2 ^ 32
 record-small true words tag = read_small words tag
 record-small false words tag = omega arith
 
@@ -51,14 +50,14 @@ tags-most : (limit : ℕ) (opened words : List ℕ) (n : ℕ) → sum_below n (o
 unfolding owed_at state_below record_at
 tags-most limit opened words n = sum-most (owed_at limit opened words) (2 ^ 32) n (λ u. go (ltb u limit) u)
   where
-    go : (b : Bool) (u : ℕ) → owed_in (pick b (pick (contains opened u) (Open (read_at words u)) Free) Free) ≤ 2 ^ 32
+    go : (b : Bool) (u : ℕ) → owed_in (pick b (pick (contains opened u) (Some (read_at words u)) None) None) ≤ 2 ^ 32
     go true u = record-small (contains opened u) words u
     go false u = omega arith
 
 -- ---- a word that has no tag
 
 module _ (rest : ℕ) (words : List ℕ) (from : ℕ) (h : rest ≡ 0) where
-  none_in : (b : ℕ) → record_in rest words from b ≡ Free
+  none_in : (b : ℕ) → record_in rest words from b ≡ None
   unfolding record_in
   none_in b = rw (h, zero-div (2 ^ b))
 
@@ -79,11 +78,11 @@ module _ (rest : ℕ) (words : List ℕ) (from : ℕ) (h : rest ≡ 0) where
 -- ---- a turn: the word's lowest tag is looked at and taken out
 
 module _ (rest : ℕ) (words : List ℕ) (from : ℕ) (h : rest ≡ 0 → ⊥) (l : rest < 2 ^ 64) where
-  open-lowest : record_in rest words from (clear_below 64 rest) ≡ Open (read_at words (from + clear_below 64 rest))
+  open-lowest : record_in rest words from (clear_below 64 rest) ≡ Some (read_at words (from + clear_below 64 rest))
   unfolding record_in
   open-lowest = rw (lowest-in rest h l)
 
-  freed-lowest : record_in (without_lowest rest) words from (clear_below 64 rest) ≡ Free
+  freed-lowest : record_in (without_lowest rest) words from (clear_below 64 rest) ≡ None
   unfolding record_in
   freed-lowest = rw (lowest-out rest h l)
 
@@ -92,7 +91,7 @@ module _ (rest : ℕ) (words : List ℕ) (from : ℕ) (h : rest ≡ 0 → ⊥) (
   kept-other b n = rw (lowest-other rest h l b n)
 
   -- where the lowest one says nothing, the rest says the same
-  agree : {M : Type 0} (g : State → M) → g (Open (read_at words (from + clear_below 64 rest))) ≡ g Free → (b : ℕ) → g (record_in (without_lowest rest) words from b) ≡ g (record_in rest words from b)
+  agree : {M : Type 0} (g : Option Read → M) → g (Some (read_at words (from + clear_below 64 rest))) ≡ g None → (b : ℕ) → g (record_in (without_lowest rest) words from b) ≡ g (record_in rest words from b)
   agree {M} g e b = go (eqb b (clear_below 64 rest)) refl
     where
       go : (c : Bool) → eqb b (clear_below 64 rest) ≡ c → g (record_in (without_lowest rest) words from b) ≡ g (record_in rest words from b)
@@ -190,7 +189,7 @@ module _ (limit : ℕ) (opened words : List ℕ) where
           rw (below-over limit opened words (64 * j + b) k) (unfold record_in in rw (word_over opened j limit b h k))
 
   -- the tags of the words up to j, and those of word j
-  with-word : {M : Type 0} (g : State → M) (join : M → M → M) (below : ℕ → (ℕ → M) → M)
+  with-word : {M : Type 0} (g : Option Read → M) (join : M → M → M) (below : ℕ → (ℕ → M) → M)
       → ((f h : ℕ → M) (a n : ℕ) → ((b : ℕ) → b < n → h b ≡ f (a + b)) → below (a + n) f ≡ join (below a f) (below n h))
       → (j : ℕ) → j < capacity / 64 → below (64 * (j + 1)) (λ u. g (state_below limit opened words u))
       ≡ join (below (64 * j) (λ u. g (state_below limit opened words u))) (below 64 (λ b. g (record_in (word_below (get_or opened j 0) (64 * j) limit) words (64 * j) b)))
@@ -198,15 +197,15 @@ module _ (limit : ℕ) (opened words : List ℕ) where
       let e : 64 * (j + 1) ≡ 64 * j + 64 = omega arith in
       rw e (parts (λ u. g (state_below limit opened words u)) (λ b. g (record_in (word_below (get_or opened j 0) (64 * j) limit) words (64 * j) b)) (64 * j) 64 (λ b h. ap g (same-record j b r h)))
 
-  none_over : (u : ℕ) → capacity ≤ u → state_below limit opened words u ≡ Free
+  none_over : (u : ℕ) → capacity ≤ u → state_below limit opened words u ≡ None
   none_over u h = go (ltb u limit) refl
     where
-      go : (c : Bool) → ltb u limit ≡ c → state_below limit opened words u ≡ Free
+      go : (c : Bool) → ltb u limit ≡ c → state_below limit opened words u ≡ None
       go true e = below_in limit opened words u (ltb-true u limit e) ∙ unfold record_at in rw (contains-over opened u h)
       go false e = below-over limit opened words u (ltb-false u limit e)
 
   -- all words are all tags below the limit
-  all_words : {M : Type 0} (g : State → M) (below : ℕ → (ℕ → M) → M) → ((f : ℕ → M) (a n : ℕ) → ((u : ℕ) → a ≤ u → f u ≡ g Free) → below (a + n) f ≡ below a f)
+  all_words : {M : Type 0} (g : Option Read → M) (below : ℕ → (ℕ → M) → M) → ((f : ℕ → M) (a n : ℕ) → ((u : ℕ) → a ≤ u → f u ≡ g None) → below (a + n) f ≡ below a f)
       → below (64 * (capacity / 64)) (λ u. g (state_below limit opened words u)) ≡ below limit (λ u. g (state_below limit opened words u))
   all_words {M} g below ends = go (ltb limit capacity) refl
     where

@@ -1,20 +1,20 @@
 -- What the functions of open.rt and take.rt state that are not public. What is promised is open_call, open_out,
 -- take_call and take_store.
 use Rattle.std.specs.Prelude.{ℕ, zero, suc, ◌*◌, Bool, true, false, not, List, ◌∷◌, ◌++◌, leb, length, take, drop}
+use Rattle.std.specs.Prelude.{Option, None}
 use Rattle.bits.specs.Choice.{pick}
 use Rattle.tlp.specs.Rows.{Row, row, first}
 use Rattle.tlp_read.specs.Read.{read_rows}
 use Rattle.tlp_read.specs.Completions.{has_completion, completion_packet, completion_rows}
 use Rattle.tlp_write.specs.declared.WriteAnswer.{WriteAnswer}
 use Rattle.tlp_write.specs.declared.WriteAnswer.TheVariants.{Written, Refused as Unwritten}
+use Rattle.reads_rules.specs.declared.read.Read.{Read}
 use Rattle.reads_rules.specs.declared.request.ReadRequest.{ReadRequest}
 use Rattle.reads_rules.specs.declared.origin.Origin.{Origin}
 use Rattle.reads_rules.specs.Requests.{request_rows}
 use Rattle.reads_rules.specs.Windows.{place_rows}
 use Rattle.reads_rules.specs.declared.piece.Piece.{Piece}
 use Rattle.reads_rules.specs.Pieces.{piece_of}
-use Rattle.reads_rules.specs.declared.state.State.{State}
-use Rattle.reads_rules.specs.declared.state.State.TheVariants.{Free}
 use Rattle.reads_rules.specs.States.{is_open}
 use Rattle.reads_answers.specs.declared.TakeAnswer.{TakeAnswer}
 use Rattle.reads_answers.specs.declared.TakeAnswer.TheVariants.{More, Done, Failed, Poisoned, Unread, Refused}
@@ -42,11 +42,11 @@ takes (Refused n) = false
 
 -- ---- the tag's record after take's answer; x is the one before, n the completion's length
 
-abbrev pub record_given : TakeAnswer → State → ℕ → State
+abbrev pub record_given : TakeAnswer → Option Read → ℕ → Option Read
 record_given More x n = advanced x n
-record_given Done x n = Free
-record_given (Failed status) x n = Free
-record_given Poisoned x n = Free
+record_given Done x n = None
+record_given (Failed status) x n = None
+record_given Poisoned x n = None
 record_given (Unread r) x n = x
 record_given (Refused k) x n = x
 
@@ -58,7 +58,7 @@ rows_before12 t q tag room =
     row 11 (not (valid_table t)) ∷ rules_before12 t.origin (state_at t tag) (shares_open t q) q tag room
 
 -- the rows before 24, with 11 first; x is the tag's record
-abbrev pub rows_before24 : Bool → Origin → State → ReadRequest → ℕ → ℕ → List Row
+abbrev pub rows_before24 : Bool → Origin → Option Read → ReadRequest → ℕ → ℕ → List Row
 rows_before24 valid o x q tag room =
     row 11 (not valid)
     ∷ (request_rows q
@@ -83,7 +83,7 @@ other_answer (suc n) = Unread (record { number = suc n })
 abbrev pub kept : TakeAnswer → Outcome
 kept a = record { answer = a; length = 0 }
 
-abbrev pub piece_outcome : Origin → State → Piece → ℕ → Outcome
+abbrev pub piece_outcome : Origin → Option Read → Piece → ℕ → Outcome
 piece_outcome o x c room = record { answer = piece_answer o x c room; length = c.length }
 
 -- the bytes as a completion, and the reader's number for it
@@ -97,10 +97,10 @@ abbrev pub numbered_outcome : ℕ → Outcome → Outcome
 numbered_outcome zero r = r
 numbered_outcome (suc n) r = kept (Unread (record { number = suc n }))
 
-unfoldable pub completion_outcome : Origin → State → List ℕ → ℕ → Outcome
+unfoldable pub completion_outcome : Origin → Option Read → List ℕ → ℕ → Outcome
 completion_outcome o x bytes room = numbered_outcome (number_in o bytes) (piece_outcome o x (piece_at bytes) room)
 
-unfoldable pub take_outcome : Bool → Origin → State → List ℕ → ℕ → Outcome
+unfoldable pub take_outcome : Bool → Origin → Option Read → List ℕ → ℕ → Outcome
 take_outcome valid o x bytes room =
     pick valid
     (pick (has_completion bytes)
@@ -113,20 +113,20 @@ abbrev pub outcome_of : Table → ℕ → List ℕ → ℕ → Outcome
 outcome_of t tag bytes room = take_outcome (valid_table t) t.origin (state_at t tag) bytes room
 
 -- the store afterwards
-abbrev pub piece_laid : Origin → State → Piece → List ℕ → List ℕ → List ℕ
+abbrev pub piece_laid : Origin → Option Read → Piece → List ℕ → List ℕ → List ℕ
 piece_laid o x c payload store = store_given (piece_answer o x c (length store)) (read_in x) payload store
 
 abbrev pub numbered_laid : ℕ → List ℕ → List ℕ → List ℕ
 numbered_laid zero laid store = laid
 numbered_laid (suc n) laid store = store
 
-unfoldable pub completion_laid : Origin → State → List ℕ → List ℕ → List ℕ
+unfoldable pub completion_laid : Origin → Option Read → List ℕ → List ℕ → List ℕ
 completion_laid o x bytes store =
     numbered_laid (number_in o bytes)
     (piece_laid o x (piece_at bytes) (take (4 * (piece_at bytes).length) (drop 12 bytes)) store)
     store
 
-unfoldable pub take_laid : Bool → Origin → State → List ℕ → List ℕ → List ℕ
+unfoldable pub take_laid : Bool → Origin → Option Read → List ℕ → List ℕ → List ℕ
 take_laid valid o x bytes store = pick valid (pick (has_completion bytes) (completion_laid o x bytes store) store) store
 
 abbrev pub laid_of : Table → ℕ → List ℕ → List ℕ → List ℕ

@@ -4,8 +4,8 @@ use Rattle.reads_answers.proofs.piece_number.Goals as goal
 pub returns-then-c-o : goal.returns-then-c-o
 returns-then-c-o c = search number-laws
 
-pub returns-then-not-is_open : goal.returns-then-not-is_open
-returns-then-not-is_open c = search number-laws
+pub returns-then-not-is_some : goal.returns-then-not-is_some
+returns-then-not-is_some c = search number-laws
 
 pub returns-then-differs : goal.returns-then-differs
 returns-then-differs c = search number-laws

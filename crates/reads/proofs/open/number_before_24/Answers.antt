@@ -11,8 +11,8 @@ returns-then-given-ne0 c = search (rows, before-24-laws) depth 14 fits 4000
 pub returns-then-tag_limit-tag : goal.returns-then-tag_limit-tag
 returns-then-tag_limit-tag c = search (rows, before-24-laws) depth 14 fits 4000
 
-pub returns-then-is_open : goal.returns-then-is_open
-returns-then-is_open c = search (rows, before-24-laws) depth 14 fits 4000
+pub returns-then-is_some : goal.returns-then-is_some
+returns-then-is_some c = search (rows, before-24-laws) depth 14 fits 4000
 
 pub returns : goal.returns
 returns c = search (rows, before-24-laws) depth 14 fits 4000

@@ -8,8 +8,8 @@ returns-then-not-valid_table c = search (withdraw-numbers, rules)
 pub returns-then-tag_limit-tag : goal.returns-then-tag_limit-tag
 returns-then-tag_limit-tag c = search (withdraw-numbers, rules)
 
-pub returns-then-not-is_open : goal.returns-then-not-is_open
-returns-then-not-is_open c = search (withdraw-numbers, rules)
+pub returns-then-not-is_some : goal.returns-then-not-is_some
+returns-then-not-is_some c = search (withdraw-numbers, rules)
 
 pub returns : goal.returns
 returns c = search (withdraw-numbers, rules)
