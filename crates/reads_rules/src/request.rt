@@ -1,12 +1,14 @@
 // A memory read as open is asked for it, and the numbers that the writer gives for its header.
 ghost use Rattle.std.specs.Prelude.{◌≡◌};
 ghost use Rattle.tlp.specs.Rows.{first};
+ghost use Rattle.tlp.specs.Refusals.{checked};
 ghost use Rattle.reads_rules.specs.Requests.{request_packet, given_bad, request_rows};
 ghost use Rattle.reads_rules.specs.Inner.Faults.{fields_over};
 
-use byte_enables::{Access, enables_allowed};
-use tlp::content::crosses_page;
+use byte_enables::Access;
+use tlp::content::memory_fault;
 use tlp::packet::{Kind, Packet, Request, Route};
+use tlp::refusal::Refusal;
 use tlp_writable::outside_of;
 
 // What open gets of a read: address, length and enables, traffic class, attributes, and where its window starts in
@@ -56,19 +58,13 @@ fn given_bad(q: ReadRequest) -> bool
     fields_over(q) || outside_of(1024, q.access.length) || q.access.address % 4 != 0
 }
 
-// The first of 6, 7 and 8 that holds; 0 where none does.
-pub fn request_number(q: ReadRequest) -> u32
-    ensures { result ≡ first (request_rows q) }
+// The first of 6, 7 and 8 that holds.
+#[tactic(auto, unfolding(tlp::specs::Rows::first, tlp::specs::Refusals::refusal, tlp::specs::Contents::enables_bad, tlp::specs::Contents::page_bad))]
+pub fn request_fault(q: ReadRequest) -> Result<(), Refusal>
+    ensures { result ≡ checked (first (request_rows q)) }
 {
     if given_bad(q) {
-        return 6;
+        return Err(Refusal::BadField);
     }
-    let a = q.access;
-    if !enables_allowed(a) {
-        return 7;
-    }
-    if crosses_page(a) {
-        return 8;
-    }
-    0
+    memory_fault(q.access)
 }

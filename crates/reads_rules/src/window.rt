@@ -1,9 +1,11 @@
 // Where the bytes of a read go: its window in the store. A start is any number, so no sum is made of it.
 ghost use Rattle.std.specs.Prelude.{◌≡◌, ◌+◌, ◌*◌, ltb};
 ghost use Rattle.tlp.specs.Rows.{first};
+ghost use Rattle.tlp.specs.Refusals.{checked};
 ghost use Rattle.reads_rules.specs.Windows.{place_bad, place_rows, shares_byte, holds_window};
 
 use crate::request::ReadRequest;
+use tlp::refusal::Refusal;
 use tlp::settings::Settings;
 
 // The most bytes that a store may have.
@@ -38,17 +40,18 @@ pub(crate) fn place_bad(q: ReadRequest, room: u64) -> bool
     STORE_LIMIT < room || q.start % 4 != 0 || before_end(room, q.start, window_size(q))
 }
 
-// The first of 22 and 23 that holds, with a store of room bytes; 0 where none does.
-pub fn place_number(settings: Settings, q: ReadRequest, room: u64) -> u32
-    ensures { result ≡ first (place_rows settings q room) }
+// The first of 22 and 23 that holds, with a store of room bytes.
+#[tactic(auto, unfolding(tlp::specs::Rows::first, tlp::specs::Refusals::refusal))]
+pub fn place_fault(settings: Settings, q: ReadRequest, room: u64) -> Result<(), Refusal>
+    ensures { result ≡ checked (first (place_rows settings q room)) }
 {
     if over_request_size(settings, q) {
-        return 22;
+        return Err(Refusal::OverMaxReadRequest);
     }
     if place_bad(q, room) {
-        return 23;
+        return Err(Refusal::BadWindow);
     }
-    0
+    Ok(())
 }
 
 // Whether the windows of two reads share a byte.
