@@ -1,6 +1,6 @@
 -- Part of demand 3: the pieces of a lawful cutting that stand after their opening are taken, "whatever calls fall
 -- between", and their bytes stand in the window.
-use Prim.Native.Nat.{ℕ, zero, suc, ◌+◌, ◌-◌, ◌*◌, ◌≤◌, ◌<◌, zero-le}
+use Prim.Native.Nat.{ℕ, ◌+◌, ◌-◌, ◌*◌, ◌≤◌, ◌<◌, zero-le}
 use mathlib.Core.Path.{◌≡◌, refl, sym, ◌∙◌}
 use mathlib.Core.Logic.{◌⊎◌, inl, inr, ◌≢◌}
 use mathlib.Core.Bool.{Bool, true, false, true≢false}
@@ -9,7 +9,9 @@ use native.Mathlib.Omega.{arith}
 use lib.Dec.{eqb, ltb}
 use lib.ListN.{length, get_or, length-append}
 use borrow.Author.Tests.{eqb-true, eqb-false, eq-eqb, ne_eqb, ltb-false, lt-ltb, le-ltb}
-use Rattle.std.specs.Prelude.{Option, Some, None}
+use Rattle.std.specs.Prelude.{Option, Some, None, Result, Ok, Err}
+use Rattle.tlp.specs.Refusals.{answered as result_of}
+use Rattle.tlp.specs.declared.refusal.Refusal.{Refusal}
 use Rattle.bits.specs.Choice.{pick}
 use Rattle.tlp.specs.Rows.{first}
 use Rattle.tlp_write.specs.Layout.{size_of}
@@ -23,19 +25,16 @@ use Rattle.reads_rules.specs.Continuations.{legal}
 use Rattle.reads_rules.specs.Pieces.{piece_in}
 use Rattle.reads_store.specs.Stores.{stored}
 use Rattle.reads.specs.declared.table.Table.{Table}
-use Rattle.reads.specs.declared.answer.OpenAnswer.{OpenAnswer}
-use Rattle.reads.specs.declared.answer.OpenAnswer.TheVariants.{Opened, Refused as OpenRefused}
 use Rattle.reads_answers.specs.declared.TakeAnswer.{TakeAnswer}
 use Rattle.reads_answers.specs.declared.TakeAnswer.TheVariants.{More, Done, Failed, Poisoned, Unread, Refused}
-use Rattle.reads.specs.declared.answer.WithdrawAnswer.{WithdrawAnswer}
-use Rattle.reads.specs.declared.answer.WithdrawAnswer.TheVariants.{Withdrawn, Refused as WithdrawRefused}
 use Rattle.reads.specs.Tables.{state_at}
 use Rattle.reads.specs.Answers.{open_number, take_number, withdraw_number}
-use Rattle.reads.specs.OpenCall.{header_packet, open_rows, open_answer, open_call}
+use Rattle.reads.specs.OpenCall.{header_packet, open_rows, open_call}
 use Rattle.reads.specs.TakeCall.{take_call, take_store}
 use Rattle.tlp_read.specs.Read.{payload_in}
 use Rattle.reads.specs.OtherCalls.{withdraw_call}
 use Rattle.cuttings.specs.Lawful.{taken_to, clean_packet, lawful_from, lawful_cutting, payloads_joined}
+use Rattle.reads_demands.proofs.Numbers.{open-zero}
 use Rattle.reads_demands.specs.History.{Call, opening, taking, withdrawing, asking, take_event, event_tag, event_change, change, doublewords, keeps, opens, open_change, take_change, withdraw_change}
 use Rattle.reads_demands.specs.Demand2.{Continues}
 use Rattle.reads_demands.specs.Demand3.{next, answered, lent, left, run, Item, other, piece, calls, pieces, Harmless, Undisturbed, SameWindow, or_last, SameStore, AllMore, Delivered, Outside}
@@ -72,11 +71,11 @@ module _ (o : Origin) (tag : ℕ) (q : ReadRequest) where
 open-keeps : (t : Table) (q : ReadRequest) (tag room space : ℕ) (r : Read) → state_at t tag ≡ Some r → open_change q (open_call t q tag room space).answer ≡ keeps
 open-keeps t q tag room space r e = go (open_call t q tag room space).answer refl
   where
-    go : (x : OpenAnswer) → (open_call t q tag room space).answer ≡ x → open_change q x ≡ keeps
-    go (Opened size) f =
+    go : (x : Result ℕ Refusal) → (open_call t q tag room space).answer ≡ x → open_change q x ≡ keeps
+    go (Ok size) f =
         let n = opened_rows t q tag room space (rw f) in
         absurd (true≢false (rw e at n.1.1.1.1.1.0))
-    go (OpenRefused n) f = refl
+    go (Err n) f = refl
 
 take-keeps : (b : List ℕ) (x : TakeAnswer) → 0 < take_number x → take_change b x ≡ keeps
 take-keeps b More h = absurd (omega arith)
@@ -86,9 +85,9 @@ take-keeps b Poisoned h = absurd (omega arith)
 take-keeps b (Unread r) h = refl
 take-keeps b (Refused n) h = refl
 
-withdraw-keeps : (x : WithdrawAnswer) → 0 < withdraw_number x → withdraw_change x ≡ keeps
-withdraw-keeps Withdrawn h = absurd (omega arith)
-withdraw-keeps (WithdrawRefused n) h = refl
+withdraw-keeps : (x : Result Unit Refusal) → 0 < withdraw_number x → withdraw_change x ≡ keeps
+withdraw-keeps (Ok u) h = absurd (omega arith)
+withdraw-keeps (Err n) h = refl
 
 own-keeps : (t : Table) (tag : ℕ) (r : Read) (c : Call) → state_at t tag ≡ Some r → Harmless tag (answered t c) → event_tag (answered t c) ≡ tag → event_change (answered t c) ≡ keeps
 own-keeps t tag r (opening q u store out) e h f = open-keeps t q u (length store) (length out) r (rw f e)
@@ -266,15 +265,15 @@ deliver o q tag opened b store limit room (piece x store₁ ∷ mid) sofar t las
       bytes = λ j h. rw (← (append_assoc sofar (x ∷ []) (pieces mid ++ (b ∷ [])))) (i.bytes j h);
     }
 
-accepted-opens : (n size : ℕ) (q : ReadRequest) → open_number (open_answer n size) ≡ 0 → open_change q (open_answer n size) ≡ opens q
-accepted-opens zero size q e = refl
-accepted-opens (suc n) size q e = absurd (omega arith)
+accepted-opens : (n size : ℕ) (q : ReadRequest) → n ≡ 0 → open_change q (result_of n size) ≡ opens q
+accepted-opens n size q e = rw e
 
 open-change : (t : Table) (q : ReadRequest) (tag : ℕ) (store out : List ℕ) → open_number (open_call t q tag (length store) (length out)).answer ≡ 0
     → change tag (answered t (opening q tag store out)) ≡ opens q
 unfolding change open_call
 open-change t q tag store out e =
-    rw (eq-eqb tag tag refl) (accepted-opens (first (open_rows t q tag (length store) (length out))) (size_of (header_packet t.origin q tag)) q e)
+    let z = open-zero t q tag (length store) (length out) e in
+    rw (eq-eqb tag tag refl) (accepted-opens (first (open_rows t q tag (length store) (length out))) (size_of (header_packet t.origin q tag)) q z)
 
 mid-opened : {o : Origin} {t : Table} → Sound o t → (q : ReadRequest) (tag : ℕ) (store out : List ℕ) → open_number (open_call t q tag (length store) (length out)).answer ≡ 0
     → Mid o q tag store [] (next t (opening q tag store out)) store

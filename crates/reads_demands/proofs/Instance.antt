@@ -14,6 +14,7 @@ use Rattle.bits.specs.Count.{clear_below, clear_above}
 use Rattle.byte_enables.specs.Enables.{enables_allowed, off, trail, total, enables_at, enabled}
 use Rattle.scans.specs.Belows.{all_below, any_below, sum_below}
 use Rattle.scans.specs.Merges.{merged}
+use Rattle.tlp.specs.Refusals.{refusal}
 use Rattle.tlp.specs.Rows.{first}
 use Rattle.tlp.specs.Settings.{settings_listed}
 use Rattle.tlp.specs.PacketTypes.{type_at}
@@ -114,7 +115,7 @@ record Computed (w : Worked) : Type 0 where
   delivers : window_of w.read (take_store (run (after_opening w) (calls w.between)) w.last_piece w.store) ≡ w.window
 
 computed : Computed whole_worked × Computed trimmed_worked
-unfolding run answers new_table state_at with_state tag_limit valid_table open_call take_call take_store packet_taking packet_store packet_answer outcome withdraw_call owed_call all_below
+unfolding run answers new_table state_at with_state tag_limit valid_table open_call take_call take_store packet_taking packet_store packet_answer outcome withdraw_call owed_call all_below refusal
     any_below sum_below merged stored shares_open owed_sum record_at state_below contains changed with_bit without_bit read_at read_of put_read put_words clear_read valid_read owed_of given_bad request_packet place_bad shares_byte holds_window is_completion piece_of status_bad
     differs clean legal byte_count_at lower_address_at cut_allowed lawful_from clean_packet reads_as_completion first
     settings_listed common_bad own_bad request_bad reserved_given address_route_bad route_bad read_packet payload_of hint_or_address_type_set routing_bad form_bad packet_at kind_at route_at
