@@ -5,7 +5,6 @@ use byte_enables::Access;
 use reads::table::Table;
 use reads_rules::read::Read;
 use reads_rules::request::ReadRequest;
-use reads_rules::state::State;
 use reads_slots::record::put_state;
 use tlp::settings::Settings;
 
@@ -46,7 +45,7 @@ pub(crate) fn first_table(others: u32, tag: u32) -> Table
     let mut t = m.table;
     for i in 0..others {
         let q = request(131072 + 64 * i as u64, 16, 4096 + 64 * i as u64);
-        let x = State::Open(Read {
+        let x = Some(Read {
             request: q,
             taken: 0,
         });

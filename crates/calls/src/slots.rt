@@ -5,7 +5,6 @@ use calls_printed::print::{print_bad, print_record, print_words};
 use reads::table::{Table, tag_limit};
 use reads_rules::origin::Origin;
 use reads_rules::read::Read;
-use reads_rules::state::State;
 use reads_slots::record::{put_state, record_at};
 use text::fields::decimal_after;
 use text::number::{MOST_32, MOST_64};
@@ -57,7 +56,7 @@ pub(crate) fn run_force(line: &[u8], mut t: Table) -> Table {
                 &mut opened,
                 &mut t.words,
                 f.tag as usize,
-                State::Open(f.read),
+                Some(f.read),
             );
             t.opened = opened;
             print_words(b"force");

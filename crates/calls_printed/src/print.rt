@@ -5,7 +5,6 @@ use reads::answer::{MakeAnswer, OpenAnswer, OwedAnswer, WithdrawAnswer};
 use reads_answers::TakeAnswer;
 use reads_rules::read::Read;
 use reads_rules::request::ReadRequest;
-use reads_rules::state::State;
 use text::decimal::put_decimal;
 use text::hex::{put_hex, put_hex_fixed, put_hex_plain};
 use text::output::put_text;
@@ -112,10 +111,10 @@ fn put_request(q: ReadRequest, at: usize, text: &mut Text) -> usize {
     put_number(b" start=", q.start, start, text)
 }
 
-fn put_state(x: State, at: usize, text: &mut Text) -> usize {
+fn put_state(x: Option<Read>, at: usize, text: &mut Text) -> usize {
     match x {
-        State::Free => put_text(b" free", at, text),
-        State::Open(r) => {
+        None => put_text(b" free", at, text),
+        Some(r) => {
             let taken = put_request(r.request, at, text);
             put_number(b" taken=", r.taken as u64, taken, text)
         }
@@ -123,7 +122,7 @@ fn put_state(x: State, at: usize, text: &mut Text) -> usize {
 }
 
 // What is kept of a tag.
-pub fn print_record(tag: u64, x: State) {
+pub fn print_record(tag: u64, x: Option<Read>) {
     let mut text = [0u8; LINE_MOST];
     let at = put_number(b"record tag=", tag, 0, &mut text);
     let size = put_state(x, at, &mut text);

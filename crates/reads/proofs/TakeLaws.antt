@@ -7,9 +7,13 @@ use mathlib.Core.List.{List}
 use lib.Dec.{ltb, leb, eqb}
 use lib.ListN.{length, take, drop}
 use borrow.Author.Tests.{not-true, not-false, eqb-true, ltb-false, le-leb}
+use Rattle.std.specs.Prelude.{Option, Some, Result, Ok, Err}
 use Rattle.bits.specs.Choice.{pick}
 use Rattle.bits.specs.Word.{byte}
 use Rattle.tlp.specs.Rows.{first}
+use Rattle.tlp.specs.Refusals.{answered, checked}
+use Rattle.tlp.specs.declared.refusal.Refusal.{Refusal}
+use Rattle.tlp.specs.declared.refusal.Refusal.TheVariants.{BadSetting}
 use Rattle.tlp.specs.Settings.{settings_listed}
 use Rattle.tlp.specs.PacketTypes.{family_of, type_at, is_unlisted}
 use Rattle.tlp.specs.Packets.{type_of, access_of}
@@ -19,7 +23,7 @@ use Rattle.tlp.proofs.RowLaws.{first-none}
 use Rattle.tlp.specs.declared.packet_type.PacketType.{PacketType}
 use Rattle.tlp.specs.declared.packet_type.PacketType.TheVariants.{MRd32, MRd64, MWr32, MWr64, IORd, IOWr, CfgRd0, CfgWr0, CfgRd1, CfgWr1, Msg, MsgD, Cpl, CplD, Unlisted}
 use Rattle.tlp.specs.declared.packet.Packet.{Packet}
-use Rattle.tlp_read.specs.Read.{read_rows, answer_of, read_packet, payload_of}
+use Rattle.tlp_read.specs.Read.{read_rows, read_packet, payload_of}
 use Rattle.tlp_read.specs.Fields.{completion_at, address_at, route_at, kind_at, packet_at}
 use Rattle.tlp_read.specs.Completions.{has_completion, completion_type, completion_packet, completion_rows}
 use Rattle.tlp_read.proofs.CompletionLaws.{completion-rows, completion-packet}
@@ -27,8 +31,6 @@ use Rattle.reads_rules.specs.declared.read.Read.{Read}
 use Rattle.reads_rules.specs.declared.piece.Piece.{Piece}
 use Rattle.reads_rules.specs.declared.origin.Origin.{Origin}
 use Rattle.reads_rules.specs.Pieces.{of_completions, is_completion, piece_of}
-use Rattle.reads_rules.specs.declared.state.State.{State}
-use Rattle.reads_rules.specs.declared.state.State.TheVariants.{Open}
 use Rattle.reads.specs.declared.table.Table.{Table}
 use Rattle.reads_slots.specs.Records.{opened_with, words_with}
 use Rattle.reads.specs.declared.table.Taking.{Taking}
@@ -39,23 +41,24 @@ use Rattle.reads.specs.Tables.{table_of, state_at, with_state, valid_table}
 use Rattle.reads_answers.specs.Takes.{read_in, tag_of, piece_answer, packet_answer}
 use Rattle.reads_answers.proofs.TakeLaws.{answer-other, answer-piece, more-le}
 use Rattle.reads.specs.TakeCall.{advanced, table_given, store_given, packet_taking, packet_store, answer_taking, answer_store, take_call, take_store}
-use Rattle.reads.specs.Inner.Steps.{takes, record_given, other_answer, kept, piece_outcome, piece_at, number_in, numbered_outcome, completion_outcome, take_outcome, outcome_of, piece_laid, numbered_laid, completion_laid, take_laid, laid_of}
+use Rattle.reads.proofs.OpenLaws.{ok-none}
+use Rattle.reads.specs.Inner.Steps.{takes, record_given, other_answer, kept, piece_outcome, piece_at, fault_in, judged_outcome, completion_outcome, take_outcome, outcome_of, piece_laid, judged_laid, completion_laid, take_laid, laid_of}
 
 -- ---- what an answer does to table and store
 
-pub advanced-case : (x v y : State) (n : ℕ) → x ≡ v → y ≡ advanced v n → y ≡ advanced x n
+pub advanced-case : (x v y : Option Read) (n : ℕ) → x ≡ v → y ≡ advanced v n → y ≡ advanced x n
 advanced-case x v y n e q = rw e q
 
-pub advance-fits : (x : State) (r : Read) (n : ℕ) → x ≡ Open r → (read_in x).taken + n ≤ (read_in x).request.access.length → r.taken + n ≤ r.request.access.length
+pub advance-fits : (x : Option Read) (r : Read) (n : ℕ) → x ≡ Some r → (read_in x).taken + n ≤ (read_in x).request.access.length → r.taken + n ≤ r.request.access.length
 advance-fits x r n e h = rw e at h
 
 pub fits-when : (a : TakeAnswer) (m n : ℕ) → (a ≡ More → m ≤ n) → a ≡ More → m ≤ n
 fits-when a m n f e = f e
 
-pub given-more : (a : TakeAnswer) (x y : State) (n : ℕ) → a ≡ More → y ≡ advanced x n → y ≡ record_given a x n
+pub given-more : (a : TakeAnswer) (x y : Option Read) (n : ℕ) → a ≡ More → y ≡ advanced x n → y ≡ record_given a x n
 given-more a x y n e q = rw e q
 
-pub given-case : (a v : TakeAnswer) (x y : State) (n : ℕ) → a ≡ v → y ≡ record_given v x n → y ≡ record_given a x n
+pub given-case : (a v : TakeAnswer) (x y : Option Read) (n : ℕ) → a ≡ v → y ≡ record_given v x n → y ≡ record_given a x n
 given-case a v x y n e q = rw e q
 
 pub store-case : (a v : TakeAnswer) (r : Read) (payload store store' : List ℕ) → a ≡ v → store' ≡ store_given v r payload store → store' ≡ store_given a r payload store
@@ -63,102 +66,50 @@ store-case a v r payload store store' e q = rw e q
 
 -- ---- a completion
 
-module _ (o : Origin) (x : State) (c : Piece) (a : TakeAnswer) where
+module _ (o : Origin) (x : Option Read) (c : Piece) (a : TakeAnswer) where
   pub piece-outcome : (room : ℕ) → a ≡ piece_answer o x c room → record { answer = a; length = c.length } ≡ piece_outcome o x c room
   piece-outcome room e = rw e
 
   pub piece-laid : (payload store store' : List ℕ) (r : Read) → a ≡ piece_answer o x c (length store) → r ≡ read_in x → store' ≡ store_given a r payload store → store' ≡ piece_laid o x c payload store
   piece-laid payload store store' r e k q = rw (← e, ← k) q
 
-unread-is : (n : ℕ) (r : Outcome) → (n ≡ 0 → ⊥) → kept (Unread (record { number = n })) ≡ numbered_outcome n r
-unread-is zero r h = absurd (h refl)
-unread-is (suc n) r h = refl
-
-unlaid-is : (n : ℕ) (laid store : List ℕ) → (n ≡ 0 → ⊥) → store ≡ numbered_laid n laid store
-unlaid-is zero laid store h = absurd (h refl)
-unlaid-is (suc n) laid store h = refl
-
-module _ (o : Origin) (x : State) (bytes : List ℕ) (p : Packet) (c : Piece) (n : ℕ) (ep : p ≡ completion_packet bytes) (ec : c ≡ piece_of p) (en : n ≡ first (completion_rows o.settings.mps c.length bytes)) where
+module _ (o : Origin) (x : Option Read) (bytes : List ℕ) (p : Packet) (c : Piece) (f : Result Unit Refusal) (ep : p ≡ completion_packet bytes) (ec : c ≡ piece_of p)
+    (ef : f ≡ checked (first (completion_rows o.settings.mps c.length bytes))) where
   piece_is : c ≡ piece_at bytes
   piece_is = ec ∙ ap piece_of ep
 
-  number_is : n ≡ number_in o bytes
-  number_is = en ∙ ap (λ d. first (completion_rows o.settings.mps d.length bytes)) piece_is
+  fault_is : f ≡ fault_in o bytes
+  fault_is = ef ∙ ap (λ d. checked (first (completion_rows o.settings.mps d.length bytes))) piece_is
 
-  pub completion-unread : (room : ℕ) → (n ≡ 0 → ⊥) → record { answer = Unread (record { number = n }); length = 0 } ≡ completion_outcome o x bytes room
+  pub completion-unread : (room : ℕ) (r : Refusal) (d : Outcome) → f ≡ Err r → d ≡ kept (Unread r) → d ≡ completion_outcome o x bytes room
   unfolding completion_outcome
-  completion-unread room h = rw (← number_is) (unread-is n _ h)
+  completion-unread room r d h e = rw (← fault_is, h) e
 
-  pub completion-unlaid : (store : List ℕ) → (n ≡ 0 → ⊥) → store ≡ completion_laid o x bytes store
+  pub completion-unlaid : (store : List ℕ) (r : Refusal) → f ≡ Err r → store ≡ completion_laid o x bytes store
   unfolding completion_laid
-  completion-unlaid store h = rw (← number_is) (unlaid-is n _ store h)
+  completion-unlaid store r h = rw (← fault_is, h)
 
-  module _ (h : n ≡ 0) where
+  module _ (u : Unit {0}) (h : f ≡ Ok u) where
     -- the slice of the payload lies within the bytes
     pub completion-fits : 12 + 4 * c.length ≤ length bytes
     completion-fits =
-        let k = (first-none (completion_rows o.settings.mps c.length bytes) refl (sym en ∙ h)).0 in
+        let k = (first-none (completion_rows o.settings.mps c.length bytes) refl (ok-none (first (completion_rows o.settings.mps c.length bytes)) u (sym h ∙ ef))).0 in
         let m = eqb-true (length bytes) _ (not-false _ k) in
         omega (arith, m)
 
-    pub completion-read : (room : ℕ) (r : Outcome) → r ≡ piece_outcome o x c room → r ≡ completion_outcome o x bytes room
+    pub completion-read : (room : ℕ) (d : Outcome) → d ≡ piece_outcome o x c room → d ≡ completion_outcome o x bytes room
     unfolding completion_outcome
-    completion-read room r q = rw (← number_is, h, ← piece_is) q
+    completion-read room d q = rw (← fault_is, h, ← piece_is) q
 
     pub completion-laid : (store store' : List ℕ) → store' ≡ piece_laid o x c (take ((12 + 4 * c.length) - 12) (drop 12 bytes)) store → store' ≡ completion_laid o x bytes store
     unfolding completion_laid
     completion-laid store store' q =
         let k : (12 + 4 * c.length) - 12 ≡ 4 * c.length = omega arith in
-        rw (← number_is, h, ← piece_is) (rw k at q)
+        rw (← fault_is, h, ← piece_is) (rw k at q)
 
 pub ruleset completion-laws = (completion-unread, completion-read)
 
 pub ruleset completion-stores = (completion-unlaid, completion-laid)
-
--- ---- what bytes do
-
-module _ (settings : Settings) (bytes : List ℕ) (n : ℕ) (e : n ≡ first (read_rows settings bytes)) where
-  pub other-unread : (n ≡ 0 → ⊥) → Unread (record { number = n }) ≡ other_answer (first (read_rows settings bytes))
-  other-unread h = rw (← e) (go n h)
-    where
-      go : (m : ℕ) → (m ≡ 0 → ⊥) → Unread (record { number = m }) ≡ other_answer m
-      go zero k = absurd (k refl)
-      go (suc m) k = refl
-
-  pub other-29 : n ≡ 0 → Refused 29 ≡ other_answer (first (read_rows settings bytes))
-  other-29 h = rw (← e, h)
-
-pub ruleset other-laws = (other-unread, other-29)
-
-module _ (v : Bool) (o : Origin) (x : State) (bytes : List ℕ) where
-  pub outcome-11 : (room : ℕ) → not v ≡ true → record { answer = Refused 11; length = 0 } ≡ take_outcome v o x bytes room
-  unfolding take_outcome
-  outcome-11 room h = rw (not-true v h)
-
-  pub laid-11 : (store : List ℕ) → not v ≡ true → store ≡ take_laid v o x bytes store
-  unfolding take_laid
-  laid-11 store h = rw (not-true v h)
-
-  module _ (h : not v ≡ false) (b : Bool) (e : b ≡ has_completion bytes) where
-    pub outcome-other : (room : ℕ) (a : TakeAnswer) → not b ≡ true → a ≡ other_answer (first (read_rows o.settings bytes)) → record { answer = a; length = 0 } ≡ take_outcome v o x bytes room
-    unfolding take_outcome
-    outcome-other room a k q = rw (not-false v h, ← e, not-true b k, q)
-
-    pub laid-other : (store : List ℕ) → not b ≡ true → store ≡ take_laid v o x bytes store
-    unfolding take_laid
-    laid-other store k = rw (not-false v h, ← e, not-true b k)
-
-    pub outcome-completion : (room : ℕ) (r : Outcome) → not b ≡ false → r ≡ completion_outcome o x bytes room → r ≡ take_outcome v o x bytes room
-    unfolding take_outcome
-    outcome-completion room r k q = rw (not-false v h, ← e, not-false b k) q
-
-    pub laid-completion : (store store' : List ℕ) → not b ≡ false → store' ≡ completion_laid o x bytes store → store' ≡ take_laid v o x bytes store
-    unfolding take_laid
-    laid-completion store store' k q = rw (not-false v h, ← e, not-false b k) q
-
-pub ruleset outcome-laws = (outcome-11, outcome-other, outcome-completion)
-
-pub ruleset laid-laws = (laid-11, laid-other, laid-completion)
 
 -- ---- byte 10: a completion's tag; what is no completion is answered 29, whichever record is looked at
 
@@ -256,20 +207,20 @@ module _ (bytes : List ℕ) where
       none-listed n.0 n.1 k.1.1.0
 
 -- More is answered to a completion alone
-more-piece : (v b : Bool) (n m : ℕ) (r : Outcome) → (pick v (pick b (numbered_outcome n r) (kept (other_answer m))) (kept (Refused 11))).answer ≡ More
-    → pick v (pick b (numbered_outcome n r) (kept (other_answer m))) (kept (Refused 11)) ≡ r
-more-piece true true zero m r h = refl
-more-piece true true (suc n) m r h = let z : ◌≡◌ {A = ℕ} 0 1 = cc in absurd (omega arith)
-more-piece true false n zero r h = let z : ◌≡◌ {A = ℕ} 0 1 = cc in absurd (omega arith)
-more-piece true false n (suc m) r h = let z : ◌≡◌ {A = ℕ} 0 1 = cc in absurd (omega arith)
+more-piece : (v b : Bool) (n m : Result Unit Refusal) (r : Outcome) → (pick v (pick b (judged_outcome n r) (kept (other_answer m))) (kept (Refused BadSetting))).answer ≡ More
+    → pick v (pick b (judged_outcome n r) (kept (other_answer m))) (kept (Refused BadSetting)) ≡ r
+more-piece true true (Ok u) m r h = refl
+more-piece true true (Err f) m r h = let z : ◌≡◌ {A = ℕ} 0 1 = cc in absurd (omega arith)
+more-piece true false n (Ok u) r h = let z : ◌≡◌ {A = ℕ} 0 1 = cc in absurd (omega arith)
+more-piece true false n (Err f) r h = let z : ◌≡◌ {A = ℕ} 0 1 = cc in absurd (omega arith)
 more-piece false b n m r h = let z : ◌≡◌ {A = ℕ} 0 1 = cc in absurd (omega arith)
 
-pub more-fits-in : (t : Table) (tag : ℕ) (bytes : List ℕ) (room : ℕ) (d : Outcome) (x : State) → d ≡ outcome_of t tag bytes room → x ≡ state_at t tag → d.answer ≡ More
+pub more-fits-in : (t : Table) (tag : ℕ) (bytes : List ℕ) (room : ℕ) (d : Outcome) (x : Option Read) → d ≡ outcome_of t tag bytes room → x ≡ state_at t tag → d.answer ≡ More
     → (read_in x).taken + d.length ≤ (read_in x).request.access.length
 unfolding take_outcome completion_outcome
 more-fits-in t tag bytes room d x e k h =
     let o = t.origin in
-    let g = e ∙ more-piece (valid_table t) (has_completion bytes) (number_in o bytes) (first (read_rows o.settings bytes)) (piece_outcome o (state_at t tag) (piece_at bytes) room) (rw e at h) in
+    let g = e ∙ more-piece (valid_table t) (has_completion bytes) (fault_in o bytes) (checked (first (read_rows o.settings bytes))) (piece_outcome o (state_at t tag) (piece_at bytes) room) (rw e at h) in
     let a : d.answer ≡ packet_answer o x (completion_packet bytes) room = rw (g, k) (sym (answer-piece o (state_at t tag) (completion_packet bytes) room (as-completion bytes))) in
     let l : d.length ≡ (piece_at bytes).length = rw g in
     rw l (more-le o x (completion_packet bytes) room d.answer (piece_at bytes) (read_in x) a h refl refl)
@@ -294,7 +245,7 @@ module _ (t : Table) (bytes : List ℕ) where
   abbrev packet : Packet
   packet = packet_at (type_at (byte bytes 0)) bytes
 
-  abbrev seen : State
+  abbrev seen : Option Read
   seen = state_at t (byte bytes 10)
 
   -- the table with what is stored of an outcome
@@ -312,26 +263,26 @@ module _ (t : Table) (bytes : List ℕ) where
   module _ (h : has_completion bytes ≡ true) (ok : settings_listed t.origin.settings ≡ true) where
     completion-done : (room : ℕ) → outcome_taking (completion_outcome t.origin seen bytes room) ≡ answer_taking t (read_packet t.origin.settings bytes) room
     unfolding completion_outcome read_packet piece_of
-    completion-done room = rw (completion-rows bytes h t.origin.settings ok, completion-packet bytes h) (by (number_in t.origin bytes))
+    completion-done room = rw (completion-rows bytes h t.origin.settings ok, completion-packet bytes h) (by (first (completion_rows t.origin.settings.mps (piece_at bytes).length bytes)))
       where
-        by : (n : ℕ) → outcome_taking (numbered_outcome n (piece_outcome t.origin seen (piece_at bytes) room)) ≡ answer_taking t (answer_of n (completion_packet bytes)) room
+        by : (n : ℕ) → outcome_taking (judged_outcome (checked n) (piece_outcome t.origin seen (piece_at bytes) room)) ≡ answer_taking t (answered n (completion_packet bytes)) room
         by zero = piece-done room
         by (suc n) = refl
 
     completion-left : (store : List ℕ) → completion_laid t.origin seen bytes store ≡ answer_store t (read_packet t.origin.settings bytes) bytes store
     unfolding completion_laid read_packet piece_of
-    completion-left store = rw (completion-rows bytes h t.origin.settings ok, completion-packet bytes h) (by (number_in t.origin bytes))
+    completion-left store = rw (completion-rows bytes h t.origin.settings ok, completion-packet bytes h) (by (first (completion_rows t.origin.settings.mps (piece_at bytes).length bytes)))
       where
-        by : (n : ℕ) → numbered_laid n (piece_laid t.origin seen (piece_at bytes) (take (4 * (piece_at bytes).length) (drop 12 bytes)) store) store ≡ answer_store t (answer_of n (completion_packet bytes)) bytes store
+        by : (n : ℕ) → judged_laid (checked n) (piece_laid t.origin seen (piece_at bytes) (take (4 * (piece_at bytes).length) (drop 12 bytes)) store) store ≡ answer_store t (answered n (completion_packet bytes)) bytes store
         by zero = piece-left store
         by (suc n) = refl
 
   module _ (h : has_completion bytes ≡ false) where
-    other-done : (room : ℕ) → outcome_taking (kept (other_answer (first (read_rows t.origin.settings bytes)))) ≡ answer_taking t (read_packet t.origin.settings bytes) room
+    other-done : (room : ℕ) → outcome_taking (kept (other_answer (checked (first (read_rows t.origin.settings bytes))))) ≡ answer_taking t (read_packet t.origin.settings bytes) room
     unfolding read_packet packet_taking
     other-done room = by (first (read_rows t.origin.settings bytes)) refl
       where
-        by : (n : ℕ) → first (read_rows t.origin.settings bytes) ≡ n → outcome_taking (kept (other_answer n)) ≡ answer_taking t (answer_of n packet) room
+        by : (n : ℕ) → first (read_rows t.origin.settings bytes) ≡ n → outcome_taking (kept (other_answer (checked n))) ≡ answer_taking t (answered n packet) room
         by zero e = rw (answer-other t.origin (state_at t (tag_of packet)) packet room (no-completion bytes t.origin.settings h e))
         by (suc n) e = refl
 
@@ -339,7 +290,7 @@ module _ (t : Table) (bytes : List ℕ) where
     unfolding read_packet packet_store
     other-left store = by (first (read_rows t.origin.settings bytes)) refl
       where
-        by : (n : ℕ) → first (read_rows t.origin.settings bytes) ≡ n → store ≡ answer_store t (answer_of n packet) bytes store
+        by : (n : ℕ) → first (read_rows t.origin.settings bytes) ≡ n → store ≡ answer_store t (answered n packet) bytes store
         by zero e = rw (answer-other t.origin (state_at t (tag_of packet)) packet (length store) (no-completion bytes t.origin.settings h e))
         by (suc n) e = refl
 
@@ -348,8 +299,8 @@ module _ (t : Table) (bytes : List ℕ) where
   call-is room = go (valid_table t) refl (has_completion bytes) refl
     where
       go : (v : Bool) → valid_table t ≡ v → (b : Bool) → has_completion bytes ≡ b
-          → outcome_taking (pick v (pick b (completion_outcome t.origin seen bytes room) (kept (other_answer (first (read_rows t.origin.settings bytes))))) (kept (Refused 11)))
-          ≡ pick v (answer_taking t (read_packet t.origin.settings bytes) room) (record { table = t; answer = Refused 11 })
+          → outcome_taking (pick v (pick b (completion_outcome t.origin seen bytes room) (kept (other_answer (checked (first (read_rows t.origin.settings bytes)))))) (kept (Refused BadSetting)))
+          ≡ pick v (answer_taking t (read_packet t.origin.settings bytes) room) (record { table = t; answer = Refused BadSetting })
       go true e true h = completion-done h (valid-listed t e) room
       go true e false h = other-done h room
       go false e b h = refl
@@ -364,7 +315,7 @@ module _ (t : Table) (bytes : List ℕ) where
       go true e false h = other-left h store
       go false e b h = refl
 
-module _ (t : Table) (tag : ℕ) (v : Bool) (x : State) (e : v ≡ valid_table t) (f : x ≡ state_at t tag) (bytes : List ℕ) where
+module _ (t : Table) (tag : ℕ) (v : Bool) (x : Option Read) (e : v ≡ valid_table t) (f : x ≡ state_at t tag) (bytes : List ℕ) where
   pub outcome-seen : (room : ℕ) (d : Outcome) → d ≡ take_outcome v t.origin x bytes room → d ≡ outcome_of t tag bytes room
   outcome-seen room d g = rw (e, f) at g
 
@@ -377,7 +328,7 @@ module _ (o : Origin) (opened words bytes : List ℕ) (tag : ℕ) (e : tag ≡ b
     outcome-is = ap (outcome_taking (table_of o opened words) bytes) (rw e at g) ∙ call-is (table_of o opened words) bytes room
 
     -- x is the record of the tag, y what is put in its place
-    pub take_done : (opened' words' : List ℕ) (x y : State) → not r ≡ false → x ≡ state_at (table_of o opened words) tag → y ≡ record_given d.answer x d.length
+    pub take_done : (opened' words' : List ℕ) (x y : Option Read) → not r ≡ false → x ≡ state_at (table_of o opened words) tag → y ≡ record_given d.answer x d.length
         → opened' ≡ opened_with opened tag y → words' ≡ words_with words tag y → record { table = table_of o opened' words'; answer = d.answer } ≡ take_call (table_of o opened words) bytes room
     unfolding with_state
     take_done opened' words' x y n k q l m = same ∙ outcome-is

@@ -1,12 +1,12 @@
 -- Document 01: the table, its tags, and when "Any call gives 11 first". A reader must believe all of it: a table is
 -- its tags' records, by `state_at`, and `valid_table`, `shares_open` and `owed_sum` are over these.
-use Rattle.std.specs.Prelude.{ℕ, ◌*◌, ◌/◌, Bool, ◌&&◌, List, replicate}
+use Rattle.std.specs.Prelude.{ℕ, ◌*◌, ◌/◌, Bool, ◌&&◌, List, replicate, Option}
 use Rattle.scans.specs.Belows.{all_below, any_below, sum_below}
 use Rattle.tlp.specs.declared.settings.Settings.{Settings}
 use Rattle.tlp.specs.Settings.{settings_listed}
+use Rattle.reads_rules.specs.declared.read.Read.{Read}
 use Rattle.reads_rules.specs.declared.origin.Origin.{Origin}
 use Rattle.reads_rules.specs.declared.request.ReadRequest.{ReadRequest}
-use Rattle.reads_rules.specs.declared.state.State.{State}
 use Rattle.reads_slots.specs.Slots.{valid_state, shares_in, owed_in}
 use Rattle.reads_words.specs.Capacity.{capacity}
 use Rattle.reads_slots.specs.Records.{state_below, opened_with, words_with}
@@ -25,11 +25,11 @@ abbrev pub table_of : Origin → List ℕ → List ℕ → Table
 table_of o opened words = record { origin = o; opened = opened; words = words }
 
 -- a tag's record: free, or open with "p and what open got: address, length, enables, TC, Attr, window start"
-unfoldable pub state_at : Table → ℕ → State
+unfoldable pub state_at : Table → ℕ → Option Read
 state_at t tag = state_below (tag_limit t.origin.settings) t.opened t.words tag
 
 -- every change of a record
-unfoldable pub with_state : Table → ℕ → State → Table
+unfoldable pub with_state : Table → ℕ → Option Read → Table
 with_state t tag x = record {
   origin = t.origin;
   opened = opened_with t.opened tag x;

@@ -1,12 +1,13 @@
 // Taking a completion.
 ghost use Rattle.std.specs.Prelude.{◌≡◌, ◌+◌, ◌≤◌, length};
 ghost use Rattle.tlp.specs.Rows.{first};
+ghost use Rattle.tlp.specs.Refusals.{checked};
 ghost use Rattle.tlp_read.specs.Read.{read_rows};
 ghost use Rattle.reads_answers.specs.Takes.{read_in};
 ghost use Rattle.reads.specs.Tables.{table_of};
 ghost use Rattle.reads.specs.TakeCall.{advanced, store_given, take_call, take_store};
 ghost use Rattle.reads.specs.Lent.{taking_of};
-ghost use Rattle.reads.specs.Inner.Steps.{record_given, other_answer, takes};
+ghost use Rattle.reads.specs.Inner.Steps.{kept, record_given, other_answer, takes};
 ghost use Rattle.reads.specs.Inner.Steps.{piece_outcome, completion_outcome, take_outcome, outcome_of};
 ghost use Rattle.reads.specs.Inner.Steps.{piece_laid, completion_laid, take_laid, laid_of};
 
@@ -16,30 +17,26 @@ use reads_answers::{TakeAnswer, piece_answer, read_in};
 use reads_rules::origin::Origin;
 use reads_rules::piece::{Piece, piece_of};
 use reads_rules::read::Read;
-use reads_rules::state::State;
 use reads_slots::record::put_state;
 use reads_store::store_piece;
 use reads_words::tag_set::TagSet;
 use reads_words::words::Words;
 use tlp::refusal::Refusal;
 use tlp::settings::Settings;
-use tlp_read::completion::{completion_number, completion_packet, has_completion};
-use tlp_read::read_number;
+use tlp_read::check;
+use tlp_read::completion::{completion_fault, completion_packet, has_completion};
 
 // A record after n doublewords more.
-fn advance(x: State, n: u32) -> State
+fn advance(x: Option<Read>, n: u32) -> Option<Read>
     requires { (read_in x).taken + n ≤ (read_in x).request.access.length }
     ensures { result ≡ advanced x n }
 {
     match x {
-        State::Free => State::Free,
-        State::Open(r) => {
-            let q = r.request;
-            State::Open(Read {
-                request: q,
-                taken: r.taken + n,
-            })
-        }
+        None => None,
+        Some(r) => Some(Read {
+            taken: r.taken + n,
+            ..r
+        }),
     }
 }
 
@@ -50,18 +47,22 @@ pub(crate) struct Outcome {
     pub length: u32,
 }
 
+// What does not change a record.
+fn kept(answer: TakeAnswer) -> Outcome
+    ensures { result ≡ kept answer }
+{
+    Outcome { answer, length: 0 }
+}
+
 // The record after an answer; n is the completion's length.
-fn record_given(a: TakeAnswer, x: State, n: u32) -> State
+fn record_given(a: TakeAnswer, x: Option<Read>, n: u32) -> Option<Read>
     requires { a ≡ TakeAnswer.More → (read_in x).taken + n ≤ (read_in x).request.access.length }
     ensures { result ≡ record_given a x n }
 {
     match a {
         TakeAnswer::More => advance(x, n),
-        TakeAnswer::Done => State::Free,
-        TakeAnswer::Failed(_) => State::Free,
-        TakeAnswer::Poisoned => State::Free,
-        TakeAnswer::Unread(_) => x,
-        TakeAnswer::Refused(_) => x,
+        TakeAnswer::Done | TakeAnswer::Failed(_) | TakeAnswer::Poisoned => None,
+        TakeAnswer::Unread(_) | TakeAnswer::Refused(_) => x,
     }
 }
 
@@ -69,78 +70,60 @@ fn record_given(a: TakeAnswer, x: State, n: u32) -> State
 fn store_given(a: TakeAnswer, r: Read, payload: &[u8], store: &mut [u8])
     ensures { store.new ≡ store_given a r payload.now store.old }
 {
-    let q = r.request;
-    match a {
-        TakeAnswer::More => store_piece(q, r.taken, payload, store),
-        TakeAnswer::Done => store_piece(q, r.taken, payload, store),
-        TakeAnswer::Failed(_) => {}
-        TakeAnswer::Poisoned => {}
-        TakeAnswer::Unread(_) => {}
-        TakeAnswer::Refused(_) => {}
+    if matches!(a, TakeAnswer::More | TakeAnswer::Done) {
+        store_piece(r.request, r.taken, payload, store);
     }
 }
 
-// The answer to bytes that hold no completion: the reader's number, or 29.
+// The answer to bytes that hold no completion: the reader's refusal, or 29.
 fn other_answer(settings: Settings, bytes: &[u8]) -> TakeAnswer
-    ensures { result ≡ other_answer (first (read_rows settings bytes.now)) }
+    ensures { result ≡ other_answer (checked (first (read_rows settings bytes.now))) }
 {
-    let n = read_number(settings, bytes);
-    if n != 0 {
-        return TakeAnswer::Unread(Refusal { number: n });
+    match check(settings, bytes) {
+        Err(r) => TakeAnswer::Unread(r),
+        Ok(()) => TakeAnswer::Refused(Refusal::NotACompletion),
     }
-    TakeAnswer::Refused(29)
 }
 
 // What a completion that was read does; x is the record of its tag.
-fn piece_outcome(o: Origin, x: State, c: Piece, payload: &[u8], store: &mut [u8]) -> Outcome
+fn piece_outcome(o: Origin, x: Option<Read>, c: Piece, payload: &[u8], store: &mut [u8]) -> Outcome
     ensures value { result ≡ piece_outcome o x c (length store.old) }
     ensures store_after { store.new ≡ piece_laid o x c payload.now store.old }
 {
     let answer = piece_answer(o, x, c, store.len() as u64);
     store_given(answer, read_in(x), payload, store);
     Outcome {
-        answer: answer,
+        answer,
         length: c.length,
     }
 }
 
 // What bytes do as a completion.
-fn completion_outcome(o: Origin, x: State, bytes: &[u8], store: &mut [u8]) -> Outcome
+fn completion_outcome(o: Origin, x: Option<Read>, bytes: &[u8], store: &mut [u8]) -> Outcome
     ensures value { result ≡ completion_outcome o x bytes.now (length store.old) }
     ensures store_after { store.new ≡ completion_laid o x bytes.now store.old }
 {
-    let settings = o.settings;
     let c = piece_of(completion_packet(bytes));
-    let n = completion_number(settings.mps, c.length, bytes);
-    if n != 0 {
-        return Outcome {
-            answer: TakeAnswer::Unread(Refusal { number: n }),
-            length: 0,
-        };
+    match completion_fault(o.settings.mps, c.length, bytes) {
+        Err(r) => kept(TakeAnswer::Unread(r)),
+        Ok(()) => piece_outcome(o, x, c, &bytes[12..12 + 4 * c.length as usize], store),
     }
-    let end = 12 + 4 * c.length as usize;
-    piece_outcome(o, x, c, &bytes[12..end], store)
 }
 
 // What bytes do; x is the record of the tag that byte 10 names. A valid table has listed settings, so a completion is
 // not read with a second test of these.
-fn take_outcome(valid: bool, o: Origin, x: State, bytes: &[u8], store: &mut [u8]) -> Outcome
+#[tactic(auto, unfolding(crate::specs::Inner::Steps::take_outcome, crate::specs::Inner::Steps::take_laid))]
+fn take_outcome(valid: bool, o: Origin, x: Option<Read>, bytes: &[u8], store: &mut [u8]) -> Outcome
     ensures value { result ≡ take_outcome valid o x bytes.now (length store.old) }
     ensures store_after { store.new ≡ take_laid valid o x bytes.now store.old }
 {
     if !valid {
-        return Outcome {
-            answer: TakeAnswer::Refused(11),
-            length: 0,
-        };
+        kept(TakeAnswer::Refused(Refusal::BadSetting))
+    } else if !has_completion(bytes) {
+        kept(other_answer(o.settings, bytes))
+    } else {
+        completion_outcome(o, x, bytes, store)
     }
-    if !has_completion(bytes) {
-        return Outcome {
-            answer: other_answer(o.settings, bytes),
-            length: 0,
-        };
-    }
-    completion_outcome(o, x, bytes, store)
 }
 
 // What bytes do to the table that the parts make; tag is the one that byte 10 names.
@@ -166,14 +149,7 @@ fn outcome_of(
 fn takes(a: TakeAnswer) -> bool
     ensures { result ≡ takes a }
 {
-    match a {
-        TakeAnswer::More => true,
-        TakeAnswer::Done => true,
-        TakeAnswer::Failed(_) => true,
-        TakeAnswer::Poisoned => true,
-        TakeAnswer::Unread(_) => false,
-        TakeAnswer::Refused(_) => false,
-    }
+    !matches!(a, TakeAnswer::Unread(_) | TakeAnswer::Refused(_))
 }
 
 // Takes a packet, over what is lent of a table. Set and words change where it is accepted, and there alone. A
@@ -215,7 +191,7 @@ impl Table {
         self.opened = opened;
         Taking {
             table: self,
-            answer: answer,
+            answer,
         }
     }
 }

@@ -3,6 +3,7 @@
 
 ghost use Rattle.std.specs.Prelude.{◌≡◌};
 ghost use Rattle.tlp.specs.Rows.{first};
+ghost use Rattle.tlp.specs.Refusals.{checked};
 ghost use Rattle.reads_answers.specs.Takes.{read_in, piece_rows, outcome, piece_answer};
 
 use byte_enables::Access;
@@ -11,12 +12,11 @@ use reads_rules::origin::Origin;
 use reads_rules::piece::Piece;
 use reads_rules::read::Read;
 use reads_rules::request::ReadRequest;
-use reads_rules::state::{State, is_open};
 use reads_rules::validity::owed_of;
 use reads_rules::window::holds_window;
 use tlp::refusal::Refusal;
 
-// What take answers: Failed with the status, Unread with the packet reader's own refusal, Refused with a number of the
+// What take answers: Failed with the status, Unread with the packet reader's own refusal, Refused with one of the
 // table's.
 #[derive(Clone, Copy)]
 pub enum TakeAnswer {
@@ -25,85 +25,81 @@ pub enum TakeAnswer {
     Failed(u8),
     Poisoned,
     Unread(Refusal),
-    Refused(u32),
+    Refused(Refusal),
 }
 
 // The read that a record holds; zeros where it is free.
-pub fn read_in(x: State) -> Read
+pub fn read_in(x: Option<Read>) -> Read
     ensures { result ≡ read_in x }
 {
-    match x {
-        State::Open(r) => r,
-        State::Free => Read {
-            request: ReadRequest {
-                access: Access {
-                    address: 0,
-                    length: 0,
-                    first: 0,
-                    last: 0,
-                },
-                traffic_class: 0,
-                attributes: 0,
-                start: 0,
+    x.unwrap_or(Read {
+        request: ReadRequest {
+            access: Access {
+                address: 0,
+                length: 0,
+                first: 0,
+                last: 0,
             },
-            taken: 0,
+            traffic_class: 0,
+            attributes: 0,
+            start: 0,
         },
-    }
+        taken: 0,
+    })
 }
 
-// The first of 30 to 34 that holds; 0 where none does. A failing status is answered before 33 and 34 are looked at.
-fn piece_number(o: Origin, x: State, c: Piece, room: u64) -> u32
-    ensures { result ≡ first (piece_rows o x c room) }
+// The first of 30 to 34 that holds. A failing status is answered before 33 and 34 are looked at.
+#[tactic(auto, unfolding(tlp::specs::Rows::first, tlp::specs::Refusals::refusal))]
+fn piece_fault(o: Origin, x: Option<Read>, c: Piece, room: u64) -> Result<(), Refusal>
+    ensures { result ≡ checked (first (piece_rows o x c room)) }
 {
     if c.requester != o.requester {
-        return 30;
+        return Err(Refusal::UnexpectedCompletion);
     }
-    if !is_open(x) {
-        return 30;
-    }
-    let r = read_in(x);
+    let Some(r) = x else {
+        return Err(Refusal::UnexpectedCompletion);
+    };
     if differs(r, c) {
-        return 31;
+        return Err(Refusal::ClassOrAttributesDiffer);
     }
     if status_bad(c) {
-        return 32;
+        return Err(Refusal::BadCompletionStatus);
     }
     if !succeeds(c) {
-        return 0;
+        return Ok(());
     }
     if !legal(o, r, c) {
-        return 33;
+        return Err(Refusal::NotAContinuation);
     }
     if !holds_window(r.request, room) {
-        return 34;
+        return Err(Refusal::BadStore);
     }
-    0
+    Ok(())
 }
 
-// The answer to a completion that has no number.
+// The answer to a completion that is not refused.
+#[tactic(auto, unfolding(crate::specs::Takes::outcome))]
 fn outcome(r: Read, c: Piece) -> TakeAnswer
     ensures { result ≡ outcome r c }
 {
-    let h = c.header;
     if !succeeds(c) {
-        return TakeAnswer::Failed(reported(h.status));
+        TakeAnswer::Failed(reported(c.header.status))
+    } else if c.poisoned {
+        TakeAnswer::Poisoned
+    } else if c.length == owed_of(r) {
+        TakeAnswer::Done
+    } else {
+        TakeAnswer::More
     }
-    if c.poisoned {
-        return TakeAnswer::Poisoned;
-    }
-    if c.length == owed_of(r) {
-        return TakeAnswer::Done;
-    }
-    TakeAnswer::More
 }
 
 // The answer to a completion that was read.
-pub fn piece_answer(o: Origin, x: State, c: Piece, room: u64) -> TakeAnswer
+#[tactic(auto, unfolding(crate::specs::Takes::piece_answer))]
+pub fn piece_answer(o: Origin, x: Option<Read>, c: Piece, room: u64) -> TakeAnswer
     ensures { result ≡ piece_answer o x c room }
 {
-    let n = piece_number(o, x, c, room);
-    if n != 0 {
-        return TakeAnswer::Refused(n);
+    match piece_fault(o, x, c, room) {
+        Err(r) => TakeAnswer::Refused(r),
+        Ok(()) => outcome(read_in(x), c),
     }
-    outcome(read_in(x), c)
 }

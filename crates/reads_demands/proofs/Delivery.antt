@@ -1,15 +1,17 @@
 -- Part of demand 3: the pieces of a lawful cutting that stand after their opening are taken, "whatever calls fall
 -- between", and their bytes stand in the window.
-use Prim.Native.Nat.{ℕ, zero, suc, ◌+◌, ◌-◌, ◌*◌, ◌≤◌, ◌<◌, zero-le}
+use Prim.Native.Nat.{ℕ, ◌+◌, ◌-◌, ◌*◌, ◌≤◌, ◌<◌, zero-le}
 use mathlib.Core.Path.{◌≡◌, refl, sym, ◌∙◌}
 use mathlib.Core.Logic.{◌⊎◌, inl, inr, ◌≢◌}
 use mathlib.Core.Bool.{Bool, true, false, true≢false}
-use mathlib.Core.Option.{some}
 use mathlib.Core.List.{List, [], ◌∷◌, ◌++◌, append_assoc}
 use native.Mathlib.Omega.{arith}
 use lib.Dec.{eqb, ltb}
 use lib.ListN.{length, get_or, length-append}
 use borrow.Author.Tests.{eqb-true, eqb-false, eq-eqb, ne_eqb, ltb-false, lt-ltb, le-ltb}
+use Rattle.std.specs.Prelude.{Option, Some, None, Result, Ok, Err}
+use Rattle.tlp.specs.Refusals.{answered as result_of}
+use Rattle.tlp.specs.declared.refusal.Refusal.{Refusal}
 use Rattle.bits.specs.Choice.{pick}
 use Rattle.tlp.specs.Rows.{first}
 use Rattle.tlp_write.specs.Layout.{size_of}
@@ -22,22 +24,17 @@ use Rattle.reads_rules.specs.Validity.{owed_of}
 use Rattle.reads_rules.specs.Continuations.{legal}
 use Rattle.reads_rules.specs.Pieces.{piece_in}
 use Rattle.reads_store.specs.Stores.{stored}
-use Rattle.reads_rules.specs.declared.state.State.{State}
-use Rattle.reads_rules.specs.declared.state.State.TheVariants.{Free, Open}
 use Rattle.reads.specs.declared.table.Table.{Table}
-use Rattle.reads.specs.declared.answer.OpenAnswer.{OpenAnswer}
-use Rattle.reads.specs.declared.answer.OpenAnswer.TheVariants.{Opened, Refused as OpenRefused}
 use Rattle.reads_answers.specs.declared.TakeAnswer.{TakeAnswer}
 use Rattle.reads_answers.specs.declared.TakeAnswer.TheVariants.{More, Done, Failed, Poisoned, Unread, Refused}
-use Rattle.reads.specs.declared.answer.WithdrawAnswer.{WithdrawAnswer}
-use Rattle.reads.specs.declared.answer.WithdrawAnswer.TheVariants.{Withdrawn, Refused as WithdrawRefused}
 use Rattle.reads.specs.Tables.{state_at}
 use Rattle.reads.specs.Answers.{open_number, take_number, withdraw_number}
-use Rattle.reads.specs.OpenCall.{header_packet, open_rows, open_answer, open_call}
+use Rattle.reads.specs.OpenCall.{header_packet, open_rows, open_call}
 use Rattle.reads.specs.TakeCall.{take_call, take_store}
 use Rattle.tlp_read.specs.Read.{payload_in}
 use Rattle.reads.specs.OtherCalls.{withdraw_call}
 use Rattle.cuttings.specs.Lawful.{taken_to, clean_packet, lawful_from, lawful_cutting, payloads_joined}
+use Rattle.reads_demands.proofs.Numbers.{open-zero}
 use Rattle.reads_demands.specs.History.{Call, opening, taking, withdrawing, asking, take_event, event_tag, event_change, change, doublewords, keeps, opens, open_change, take_change, withdraw_change}
 use Rattle.reads_demands.specs.Demand2.{Continues}
 use Rattle.reads_demands.specs.Demand3.{next, answered, lent, left, run, Item, other, piece, calls, pieces, Harmless, Undisturbed, SameWindow, or_last, SameStore, AllMore, Delivered, Outside}
@@ -71,14 +68,14 @@ module _ (o : Origin) (tag : ℕ) (q : ReadRequest) where
 
 -- ---- calls that fall between: none changes the tag's record
 
-open-keeps : (t : Table) (q : ReadRequest) (tag room space : ℕ) (r : Read) → state_at t tag ≡ Open r → open_change q (open_call t q tag room space).answer ≡ keeps
+open-keeps : (t : Table) (q : ReadRequest) (tag room space : ℕ) (r : Read) → state_at t tag ≡ Some r → open_change q (open_call t q tag room space).answer ≡ keeps
 open-keeps t q tag room space r e = go (open_call t q tag room space).answer refl
   where
-    go : (x : OpenAnswer) → (open_call t q tag room space).answer ≡ x → open_change q x ≡ keeps
-    go (Opened size) f =
+    go : (x : Result ℕ Refusal) → (open_call t q tag room space).answer ≡ x → open_change q x ≡ keeps
+    go (Ok size) f =
         let n = opened_rows t q tag room space (rw f) in
         absurd (true≢false (rw e at n.1.1.1.1.1.0))
-    go (OpenRefused n) f = refl
+    go (Err n) f = refl
 
 take-keeps : (b : List ℕ) (x : TakeAnswer) → 0 < take_number x → take_change b x ≡ keeps
 take-keeps b More h = absurd (omega arith)
@@ -88,17 +85,17 @@ take-keeps b Poisoned h = absurd (omega arith)
 take-keeps b (Unread r) h = refl
 take-keeps b (Refused n) h = refl
 
-withdraw-keeps : (x : WithdrawAnswer) → 0 < withdraw_number x → withdraw_change x ≡ keeps
-withdraw-keeps Withdrawn h = absurd (omega arith)
-withdraw-keeps (WithdrawRefused n) h = refl
+withdraw-keeps : (x : Result Unit Refusal) → 0 < withdraw_number x → withdraw_change x ≡ keeps
+withdraw-keeps (Ok u) h = absurd (omega arith)
+withdraw-keeps (Err n) h = refl
 
-own-keeps : (t : Table) (tag : ℕ) (r : Read) (c : Call) → state_at t tag ≡ Open r → Harmless tag (answered t c) → event_tag (answered t c) ≡ tag → event_change (answered t c) ≡ keeps
+own-keeps : (t : Table) (tag : ℕ) (r : Read) (c : Call) → state_at t tag ≡ Some r → Harmless tag (answered t c) → event_tag (answered t c) ≡ tag → event_change (answered t c) ≡ keeps
 own-keeps t tag r (opening q u store out) e h f = open-keeps t q u (length store) (length out) r (rw f e)
 own-keeps t tag r (taking b store) e h f = take-keeps b (take_call t b (length store)).answer (h f)
 own-keeps t tag r (withdrawing u) e h f = withdraw-keeps (withdraw_call t u).answer (h f)
 own-keeps t tag r asking e h f = refl
 
-harmless-keeps : (t : Table) (tag : ℕ) (r : Read) (c : Call) → state_at t tag ≡ Open r → Harmless tag (answered t c) → change tag (answered t c) ≡ keeps
+harmless-keeps : (t : Table) (tag : ℕ) (r : Read) (c : Call) → state_at t tag ≡ Some r → Harmless tag (answered t c) → change tag (answered t c) ≡ keeps
 unfolding change
 harmless-keeps t tag r c e h = go (eqb (event_tag (answered t c)) tag) refl
   where
@@ -117,15 +114,15 @@ apart-outside q r k e h = go (ltb q.start (window_end r)) refl
     go false f = inr (omega (arith, ltb-false q.start (window_end r) f))
 
 -- of another tag's window, each byte of an open tag's is outside
-other-outside : {o : Origin} {t : Table} → Sound o t → (tag u : ℕ) → tag ≢ u → (r : Read) → state_at t tag ≡ Open r → (k : ℕ) → k < 4 * r.request.access.length
+other-outside : {o : Origin} {t : Table} → Sound o t → (tag u : ℕ) → tag ≢ u → (r : Read) → state_at t tag ≡ Some r → (k : ℕ) → k < 4 * r.request.access.length
     → Outside (state_at t u) (r.request.start + k)
 other-outside {t = t} g tag u ne r e k h = go (state_at t u) refl
   where
-    go : (x : State) → state_at t u ≡ x → Outside x (r.request.start + k)
-    go Free f = tt
-    go (Open r₂) f = apart-outside r.request r₂.request k (apart g tag u ne r r₂ e f) h
+    go : (x : Option Read) → state_at t u ≡ x → Outside x (r.request.start + k)
+    go None f = tt
+    go (Some r₂) f = apart-outside r.request r₂.request k (apart g tag u ne r r₂ e f) h
 
-module _ {o : Origin} {t : Table} (g : Sound o t) (tag : ℕ) (r : Read) (is : state_at t tag ≡ Open r) where
+module _ {o : Origin} {t : Table} (g : Sound o t) (tag : ℕ) (r : Read) (is : state_at t tag ≡ Some r) where
   take-window : (b store : List ℕ) → Harmless tag (take_event b store (take_call t b (length store)).answer) → (k : ℕ) → k < 4 * r.request.access.length
       → get_or (take_store t b store) (r.request.start + k) 0 ≡ get_or store (r.request.start + k) 0
   take-window b store h k l = go (true-or-false (eqb (piece_in b).header.tag tag))
@@ -137,7 +134,7 @@ module _ {o : Origin} {t : Table} (g : Sound o t) (tag : ℕ) (r : Read) (is : s
 
   -- the store last left, after such a call
   other-store : (last : List ℕ) (c : Call) → Harmless tag (answered t c) → SameWindow r.request last (lent c)
-      → SameWindow r.request last (some (or_last last (left t c)))
+      → SameWindow r.request last (Some (or_last last (left t c)))
   other-store last (opening q u store out) h w = w
   other-store last (taking b store) h w = ((frame t b store).size ∙ w.0, λ k l. take-window b store h k l ∙ w.1 k l)
   other-store last (withdrawing u) h w = (refl, λ k l. refl)
@@ -146,7 +143,7 @@ module _ {o : Origin} {t : Table} (g : Sound o t) (tag : ℕ) (r : Read) (is : s
 -- ---- where the delivery stands: the pieces so far are in the store last left
 record Mid (o : Origin) (q : ReadRequest) (tag : ℕ) (opened : List ℕ) (sofar : List (List ℕ)) (t : Table) (last : List ℕ) : Type 0 where
   sound : Sound o t
-  is : state_at t tag ≡ Open (taken_to q (doublewords sofar))
+  is : state_at t tag ≡ Some (taken_to q (doublewords sofar))
   laid : length (payloads_joined sofar) ≡ 4 * doublewords sofar
   size : length last ≡ length opened
   window : (k : ℕ) → k < 4 * q.access.length → get_or last (q.start + k) 0 ≡ window_byte q (doublewords sofar) (payloads_joined sofar) opened k
@@ -155,7 +152,7 @@ record Mid (o : Origin) (q : ReadRequest) (tag : ℕ) (opened : List ℕ) (sofar
 record Arrives (q : ReadRequest) (tag : ℕ) (t : Table) (opened : List ℕ) (all : List (List ℕ)) (mid : List Item) (b store : List ℕ) : Type 0 where
   taken : AllMore t mid
   done : (take_call (run t (calls mid)) b (length store)).answer ≡ Done
-  free : state_at (next (run t (calls mid)) (taking b store)) tag ≡ Free
+  free : state_at (next (run t (calls mid)) (taking b store)) tag ≡ None
   bytes : (k : ℕ) → k < 4 * q.access.length
       → get_or (take_store (run t (calls mid)) b store) (q.start + k) 0 ≡ pick (enabled q.access k) (get_or (payloads_joined all) k 0) (get_or opened (q.start + k) 0)
 
@@ -174,7 +171,7 @@ module _ (o : Origin) (q : ReadRequest) (tag : ℕ) (opened : List ℕ) (sofar :
 
   -- ---- a piece is taken
   module _ (limit : length opened ≤ store_limit) (room : window_end q ≤ length opened) (b store : List ℕ) (clean! : clean_packet o tag (taken_to q (doublewords sofar)) b ≡ true)
-      (legal! : legal o (taken_to q (doublewords sofar)) (piece_in b) ≡ true) (w : SameWindow q last (some store)) where
+      (legal! : legal o (taken_to q (doublewords sofar)) (piece_in b) ≡ true) (w : SameWindow q last (Some store)) where
     own-tag : (piece_in b).header.tag ≡ tag
     own-tag = (clean-bytes o tag (taken_to q (doublewords sofar)) b clean!).piece.matches
 
@@ -268,15 +265,15 @@ deliver o q tag opened b store limit room (piece x store₁ ∷ mid) sofar t las
       bytes = λ j h. rw (← (append_assoc sofar (x ∷ []) (pieces mid ++ (b ∷ [])))) (i.bytes j h);
     }
 
-accepted-opens : (n size : ℕ) (q : ReadRequest) → open_number (open_answer n size) ≡ 0 → open_change q (open_answer n size) ≡ opens q
-accepted-opens zero size q e = refl
-accepted-opens (suc n) size q e = absurd (omega arith)
+accepted-opens : (n size : ℕ) (q : ReadRequest) → n ≡ 0 → open_change q (result_of n size) ≡ opens q
+accepted-opens n size q e = rw e
 
 open-change : (t : Table) (q : ReadRequest) (tag : ℕ) (store out : List ℕ) → open_number (open_call t q tag (length store) (length out)).answer ≡ 0
     → change tag (answered t (opening q tag store out)) ≡ opens q
 unfolding change open_call
 open-change t q tag store out e =
-    rw (eq-eqb tag tag refl) (accepted-opens (first (open_rows t q tag (length store) (length out))) (size_of (header_packet t.origin q tag)) q e)
+    let z = open-zero t q tag (length store) (length out) e in
+    rw (eq-eqb tag tag refl) (accepted-opens (first (open_rows t q tag (length store) (length out))) (size_of (header_packet t.origin q tag)) q z)
 
 mid-opened : {o : Origin} {t : Table} → Sound o t → (q : ReadRequest) (tag : ℕ) (store out : List ℕ) → open_number (open_call t q tag (length store) (length out)).answer ≡ 0
     → Mid o q tag store [] (next t (opening q tag store out)) store

@@ -4,19 +4,17 @@ use Prim.Native.Nat.{ℕ, ◌+◌, ◌-◌}
 use mathlib.Core.Path.{◌≡◌, refl, sym, ap, ◌∙◌}
 use mathlib.Core.Logic.{inr, ◌↔◌}
 use mathlib.Core.Bool.{true, true≢false}
-use mathlib.Core.Option.{Option, none, some}
 use mathlib.Core.List.{List, [], ◌∷◌, ◌++◌}
 use native.Mathlib.Omega.{arith}
 use lib.ListN.{length}
 use borrow.Author.Tests.{eq-eqb, eqb-true, le-leb}
+use Rattle.std.specs.Prelude.{Option, Some, None}
 use Rattle.tlp.specs.Settings.{settings_listed}
 use Rattle.reads_rules.specs.declared.request.ReadRequest.{ReadRequest}
 use Rattle.reads_rules.specs.declared.read.Read.{Read}
 use Rattle.reads_rules.specs.declared.origin.Origin.{Origin}
 use Rattle.reads_rules.specs.Validity.{owed_of}
 use Rattle.reads_rules.specs.Pieces.{piece_in}
-use Rattle.reads_rules.specs.declared.state.State.{State}
-use Rattle.reads_rules.specs.declared.state.State.TheVariants.{Free, Open}
 use Rattle.reads_rules.specs.States.{is_open}
 use Rattle.reads.specs.declared.table.Table.{Table}
 use Rattle.reads_answers.specs.declared.TakeAnswer.TheVariants.{Done}
@@ -81,24 +79,24 @@ continues-lawful o t b room tag r e n c =
 -- ---- the pieces taken since an opening
 
 abbrev Begins : Origin → History → Type 0
-Begins o h = (tag : ℕ) (q : ReadRequest) → open_request tag h ≡ some q → Begun o tag q 0 (taken_pieces tag h)
+Begins o h = (tag : ℕ) (q : ReadRequest) → open_request tag h ≡ Some q → Begun o tag q 0 (taken_pieces tag h)
 
-record-open : (h : History) (tag : ℕ) (q : ReadRequest) → open_request tag h ≡ some q → records_of h tag ≡ Open (taken_to q (doublewords (taken_pieces tag h)))
+record-open : (h : History) (tag : ℕ) (q : ReadRequest) → open_request tag h ≡ Some q → records_of h tag ≡ Some (taken_to q (doublewords (taken_pieces tag h)))
 unfolding records_of
 record-open h tag q e = rw e
 
-record-free : (h : History) (tag : ℕ) → open_request tag h ≡ none → records_of h tag ≡ Free
+record-free : (h : History) (tag : ℕ) → open_request tag h ≡ None → records_of h tag ≡ None
 unfolding records_of
 record-free h tag e = rw e
 
-same_read : (x : State) (r r₂ : Read) → x ≡ Open r → x ≡ Open r₂ → r ≡ r₂
+same_read : (x : Option Read) (r r₂ : Read) → x ≡ Some r → x ≡ Some r₂ → r ≡ r₂
 same_read x r r₂ e f = ap read_in (sym e ∙ f)
 
-none-some : (q : ReadRequest) → none ≡ some q → ⊥
+none-some : (q : ReadRequest) → None ≡ Some q → ⊥
 none-some q e = let z : ◌≡◌ {A = ℕ} 0 1 = cc in omega arith
 
 module _ {o : Origin} {t : Table} {h : History} (f : Follows o t h) where
-  begins-change : Begins o h → (tag : ℕ) (q : ReadRequest) (c : Change) → Fair t tag c → request_after c (open_request tag h) ≡ some q
+  begins-change : Begins o h → (tag : ℕ) (q : ReadRequest) (c : Change) → Fair t tag c → request_after c (open_request tag h) ≡ Some q
       → Begun o tag q 0 (pieces_after c (taken_pieces tag h))
   begins-change k tag q keeps a e = k tag q e
   begins-change k tag q (opens r) a e = tt
@@ -124,7 +122,7 @@ begins o l cs = begins-run o (new_table o) [] cs (follows-new o l) (unfold open_
 
 -- ---- the last piece
 
-free-not : (r : Read) → Free ≡ Open r → ⊥
+free-not : (r : Read) → None ≡ Some r → ⊥
 free-not r e = true≢false (ap is_open (sym e))
 
 module _ {o : Origin} {t : Table} {h : History} (f : Follows o t h) (k : Begins o h) (b store : List ℕ) where
@@ -133,8 +131,8 @@ module _ {o : Origin} {t : Table} {h : History} (f : Follows o t h) (k : Begins 
   done-ends e = go (open_request (piece_in b).header.tag h) refl
     where
       go : (x : Option ReadRequest) → open_request (piece_in b).header.tag h ≡ x → Ends o h b store
-      go none n = let m = meets t b (length store) (inr e) in absurd (free-not m.read (sym (record-free h (piece_in b).header.tag n) ∙ (sym (f.records (piece_in b).header.tag) ∙ m.continues.is_open)))
-      go (some q) n =
+      go None n = let m = meets t b (length store) (inr e) in absurd (free-not m.read (sym (record-free h (piece_in b).header.tag n) ∙ (sym (f.records (piece_in b).header.tag) ∙ m.continues.is_open)))
+      go (Some q) n =
           let tag = (piece_in b).header.tag in
           let bs = taken_pieces tag h in
           let m = meets t b (length store) (inr e) in

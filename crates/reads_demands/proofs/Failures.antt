@@ -8,10 +8,10 @@ use native.Mathlib.Omega.{arith}
 use lib.Dec.{eqb}
 use lib.ListN.{length}
 use borrow.Author.Tests.{eqb-true, eqb-false, eq-eqb, ne_eqb}
+use Rattle.std.specs.Prelude.{None}
 use Rattle.bits.specs.Choice.{pick}
 use Rattle.tlp_read.specs.Read.{payload_in}
 use Rattle.reads_rules.specs.declared.read.Read.{Read}
-use Rattle.reads_rules.specs.declared.state.State.TheVariants.{Free}
 use Rattle.reads_rules.specs.Windows.{holds_window}
 use Rattle.reads_rules.specs.Pieces.{piece_in}
 use Rattle.reads_rules.specs.Continuations.{legal, succeeds, reported}
@@ -107,7 +107,7 @@ module _ (t : Table) (b : List ℕ) (room : ℕ) where
       ∙ rw (ok, p.poisoned)
 
 -- ---- table and store: of an answer that frees the tag and leaves the store
-closes : (t : Table) (b store : List ℕ) (x : TakeAnswer) → table_given x t (piece_in b) ≡ with_state t (piece_in b).header.tag Free
+closes : (t : Table) (b store : List ℕ) (x : TakeAnswer) → table_given x t (piece_in b) ≡ with_state t (piece_in b).header.tag None
     → ((r : Read) (payload : List ℕ) → store_given x r payload store ≡ store) → (take_call t b (length store)).answer ≡ x → Closes t b store
 closes t b store x f s e = record {
   free = rw (take-table t b (length store) x e, f) (state-freed t (piece_in b).header.tag);

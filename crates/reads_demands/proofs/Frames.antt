@@ -3,10 +3,11 @@
 use Prim.Native.Nat.{ℕ, ◌+◌, ◌-◌, ◌≤◌, ◌<◌}
 use mathlib.Core.Path.{◌≡◌, refl, ap, ◌∙◌}
 use mathlib.Core.Logic.{◌⊎◌, inl, inr, ◌≢◌}
-use mathlib.Core.Option.{some}
 use mathlib.Core.List.{List, []}
 use native.Mathlib.Omega.{arith}
 use lib.ListN.{length, get_or}
+use Rattle.std.specs.Prelude.{Some, Result, Ok, Err}
+use Rattle.tlp.specs.declared.refusal.Refusal.{Refusal}
 use Rattle.tlp_write.specs.Layout.{bytes_of}
 use Rattle.reads_rules.specs.declared.read.Read.{Read}
 use Rattle.reads_rules.specs.declared.piece.Piece.{Piece}
@@ -17,12 +18,8 @@ use Rattle.reads_rules.specs.Pieces.{piece_in}
 use Rattle.reads_store.specs.Stores.{part_at, stored}
 use Rattle.reads_store.proofs.StoreLaws.{length-stored, stored-before, stored-after}
 use Rattle.reads.specs.declared.table.Table.{Table}
-use Rattle.reads.specs.declared.answer.OpenAnswer.{OpenAnswer}
-use Rattle.reads.specs.declared.answer.OpenAnswer.TheVariants.{Opened, Refused as OpenRefused}
 use Rattle.reads_answers.specs.declared.TakeAnswer.{TakeAnswer}
 use Rattle.reads_answers.specs.declared.TakeAnswer.TheVariants.{More, Done, Failed, Poisoned, Unread, Refused}
-use Rattle.reads.specs.declared.answer.WithdrawAnswer.{WithdrawAnswer}
-use Rattle.reads.specs.declared.answer.WithdrawAnswer.TheVariants.{Withdrawn, Refused as WithdrawRefused}
 use Rattle.reads.specs.Answers.{open_number, take_number, withdraw_number}
 use Rattle.reads.specs.Tables.{state_at}
 use Rattle.reads_answers.specs.Takes.{read_in}
@@ -103,9 +100,9 @@ frame t b store =
 
 -- ---- a number changes nothing
 
-open_kept : (x : OpenAnswer) (t : Table) (q : ReadRequest) (tag : ℕ) (header out : List ℕ) → 0 < open_number x → (table_opened x t q tag ≡ t) × (out_given x header out ≡ out)
-open_kept (Opened size) t q tag header out h = absurd (omega arith)
-open_kept (OpenRefused n) t q tag header out h = (refl, refl)
+open_kept : (x : Result ℕ Refusal) (t : Table) (q : ReadRequest) (tag : ℕ) (header out : List ℕ) → 0 < open_number x → (table_opened x t q tag ≡ t) × (out_given x header out ≡ out)
+open_kept (Ok size) t q tag header out h = absurd (omega arith)
+open_kept (Err n) t q tag header out h = (refl, refl)
 
 pub open-unchanged : (t : Table) (q : ReadRequest) (tag : ℕ) (store out : List ℕ) → 0 < open_number (open_call t q tag (length store) (length out)).answer
     → ((open_call t q tag (length store) (length out)).table ≡ t) × (open_out t q tag (length store) out ≡ out)
@@ -127,9 +124,9 @@ take-unchanged t b store h =
     let k = take-kept x t (piece_in b) (read_in (state_at t (piece_in b).header.tag)) (payload_in b) store h in
     (take-table t b (length store) x refl ∙ k.0, take-store t b store x refl ∙ k.1)
 
-withdraw-kept : (x : WithdrawAnswer) (t : Table) (tag : ℕ) → 0 < withdraw_number x → table_withdrawn x t tag ≡ t
-withdraw-kept Withdrawn t tag h = absurd (omega arith)
-withdraw-kept (WithdrawRefused n) t tag h = refl
+withdraw-kept : (x : Result Unit Refusal) (t : Table) (tag : ℕ) → 0 < withdraw_number x → table_withdrawn x t tag ≡ t
+withdraw-kept (Ok u) t tag h = absurd (omega arith)
+withdraw-kept (Err n) t tag h = refl
 
 pub withdraw-unchanged : (t : Table) (tag : ℕ) → 0 < withdraw_number (withdraw_call t tag).answer → (withdraw_call t tag).table ≡ t
 unfolding withdraw_call
@@ -141,6 +138,6 @@ unchanged t (opening q tag store out) h =
     record { table = k.0; store = refl; out = k.1 }
 unchanged t (taking b store) h =
     let k = take-unchanged t b store h in
-    record { table = k.0; store = ap some k.1; out = refl }
+    record { table = k.0; store = ap Some k.1; out = refl }
 unchanged t (withdrawing tag) h = record { table = withdraw-unchanged t tag h; store = refl; out = refl }
 unchanged t asking h = record { table = refl; store = refl; out = refl }

@@ -2,18 +2,19 @@
 use Prim.Native.Nat.{ℕ, ◌+◌, ◌*◌, ◌<◌}
 use mathlib.Core.Path.{◌≡◌, refl, sym, ap, ◌∙◌}
 use mathlib.Core.Bool.{Bool, true, not, ◌||◌, ◌&&◌, and-eq-true_iff}
-use mathlib.Core.Option.{Option, none, some}
 use mathlib.Core.List.{List, [], ◌∷◌, ◌++◌}
 use lib.Dec.{eqb, ltb}
 use lib.ListN.{length, drop, get_or}
 use lib.Seq.{get_or-take, get_or-drop}
 use borrow.Author.Tests.{eqb-true, eq-eqb, ltb-true}
+use Rattle.std.specs.Prelude.{Option, Some, None}
 use Rattle.bits.specs.Same.{same_list}
 use Rattle.bits.proofs.SameLaws.{same-yes}
 use Rattle.bits.specs.Count.{clear_below, clear_above}
 use Rattle.byte_enables.specs.Enables.{enables_allowed, off, trail, total, enables_at, enabled}
 use Rattle.scans.specs.Belows.{all_below, any_below, sum_below}
 use Rattle.scans.specs.Merges.{merged}
+use Rattle.tlp.specs.Refusals.{refusal}
 use Rattle.tlp.specs.Rows.{first}
 use Rattle.tlp.specs.Settings.{settings_listed}
 use Rattle.tlp.specs.PacketTypes.{type_at}
@@ -80,15 +81,15 @@ is-undisturbed tag t (piece b store ∷ is) h = is-undisturbed tag (next t (taki
 -- ---- the same store, as a test
 
 abbrev same_window : ReadRequest → List ℕ → Option (List ℕ) → Bool
-same_window q last none = true
-same_window q last (some store) = eqb (length store) (length last) && same_list (window_of q store) (window_of q last)
+same_window q last None = true
+same_window q last (Some store) = eqb (length store) (length last) && same_list (window_of q store) (window_of q last)
 
 window-byte : (q : ReadRequest) (store : List ℕ) (k : ℕ) → k < 4 * q.access.length → get_or (window_of q store) k 0 ≡ get_or store (q.start + k) 0
 window-byte q store k h = get_or-take (4 * q.access.length) (drop q.start store) k 0 h ∙ get_or-drop q.start store k 0
 
 is-same-window : (q : ReadRequest) (last : List ℕ) (x : Option (List ℕ)) → same_window q last x ≡ true → SameWindow q last x
-is-same-window q last none h = tt
-is-same-window q last (some store) h =
+is-same-window q last None h = tt
+is-same-window q last (Some store) h =
     let p = (and-eq-true_iff (eqb (length store) (length last)) (same_list (window_of q store) (window_of q last))).0 h in
     let e = same-yes (window_of q store) (window_of q last) p.1 in
     (eqb-true _ _ p.0, λ k l. sym (window-byte q store k l) ∙ (ap (λ (w : List ℕ). get_or w k 0) e ∙ window-byte q last k l))
@@ -114,7 +115,7 @@ record Computed (w : Worked) : Type 0 where
   delivers : window_of w.read (take_store (run (after_opening w) (calls w.between)) w.last_piece w.store) ≡ w.window
 
 computed : Computed whole_worked × Computed trimmed_worked
-unfolding run answers new_table state_at with_state tag_limit valid_table open_call take_call take_store packet_taking packet_store packet_answer outcome withdraw_call owed_call all_below
+unfolding run answers new_table state_at with_state tag_limit valid_table open_call take_call take_store packet_taking packet_store packet_answer outcome withdraw_call owed_call all_below refusal
     any_below sum_below merged stored shares_open owed_sum record_at state_below contains changed with_bit without_bit read_at read_of put_read put_words clear_read valid_read owed_of given_bad request_packet place_bad shares_byte holds_window is_completion piece_of status_bad
     differs clean legal byte_count_at lower_address_at cut_allowed lawful_from clean_packet reads_as_completion first
     settings_listed common_bad own_bad request_bad reserved_given address_route_bad route_bad read_packet payload_of hint_or_address_type_set routing_bad form_bad packet_at kind_at route_at

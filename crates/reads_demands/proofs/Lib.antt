@@ -8,6 +8,7 @@ pub mod Demand2
 pub mod LawfulPieces
 pub mod Limits
 pub mod Steps
+pub mod Numbers
 pub mod Accepted
 pub mod Runs
 pub mod Says

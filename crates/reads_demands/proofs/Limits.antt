@@ -7,10 +7,10 @@ use native.Mathlib.Omega.{arith}
 use lib.Dec.{ltb, eqb}
 use lib.ListN.{length, length-replicate}
 use borrow.Author.Tests.{ltb-true, ltb-false, eqb-true, eqb-false}
+use Rattle.std.specs.Prelude.{Option, None}
 use Rattle.bits.specs.Choice.{pick}
+use Rattle.reads_rules.specs.declared.read.Read.{Read}
 use Rattle.reads_rules.specs.declared.origin.Origin.{Origin}
-use Rattle.reads_rules.specs.declared.state.State.{State}
-use Rattle.reads_rules.specs.declared.state.State.TheVariants.{Free}
 use Rattle.reads_words.specs.Capacity.{capacity}
 use Rattle.reads_words.specs.Words.{clear_read}
 use Rattle.reads_slots.specs.Inner.Fits.{FitsIn}
@@ -33,11 +33,11 @@ pub size-new : (o : Origin) → Sized (new_table o)
 unfolding new_table
 size-new o = record { of_set = length-replicate {A = ℕ} (capacity / 64) 0; of_words = length-replicate {A = ℕ} (4 * capacity) 0 }
 
-pub state-over : (t : Table) (u : ℕ) → limit_of t ≤ u → state_at t u ≡ Free
+pub state-over : (t : Table) (u : ℕ) → limit_of t ≤ u → state_at t u ≡ None
 unfolding state_at
 state-over t u h = below-over (limit_of t) t.opened t.words u h
 
-pub state-new : (o : Origin) (u : ℕ) → state_at (new_table o) u ≡ Free
+pub state-new : (o : Origin) (u : ℕ) → state_at (new_table o) u ≡ None
 unfolding new_table state_at
 state-new o u = below_free (tag_limit o.settings) (new_table o).opened (new_table o).words u (record-empty (capacity / 64) u (new_table o).words)
 
@@ -47,13 +47,13 @@ unfolding state_at
 state-fits t u = below-fits (limit_of t) t.opened t.words u
 
 -- a tag that is freed is free, in a table of any size
-pub state-freed : (t : Table) (u : ℕ) → state_at (with_state t u Free) u ≡ Free
+pub state-freed : (t : Table) (u : ℕ) → state_at (with_state t u None) u ≡ None
 unfolding state_at with_state
 state-freed t u = below_free (limit_of t) _ _ u (record_freed t.opened (clear_read t.words u) u)
 
 -- ---- one record set
 
-module _ (t : Table) (u : ℕ) (x : State) where
+module _ (t : Table) (u : ℕ) (x : Option Read) where
   pub size-with : Sized t → Sized (with_state t u x)
   unfolding with_state
   size-with l = record { of_set = length-opened t.opened u x ∙ l.of_set; of_words = length-words t.words u x ∙ l.of_words }
@@ -69,7 +69,7 @@ module _ (t : Table) (u : ℕ) (x : State) where
       let k = limit-fits t.origin.settings in
       below_in (limit_of t) _ _ u h ∙ record_same t.opened t.words u x (omega arith) l.of_set l.of_words f
 
-  pub state-with : Sized t → FitsIn x → (limit_of t ≤ u → x ≡ Free) → (v : ℕ) → state_at (with_state t u x) v ≡ pick (eqb u v) x (state_at t v)
+  pub state-with : Sized t → FitsIn x → (limit_of t ≤ u → x ≡ None) → (v : ℕ) → state_at (with_state t u x) v ≡ pick (eqb u v) x (state_at t v)
   state-with l fit f v = go (true-or-false (eqb u v)) (true-or-false (ltb u (limit_of t)))
     where
       go : (eqb u v ≡ true) ⊎ (eqb u v ≡ false) → (ltb u (limit_of t) ≡ true) ⊎ (ltb u (limit_of t) ≡ false) → state_at (with_state t u x) v ≡ pick (eqb u v) x (state_at t v)

@@ -6,10 +6,10 @@ use mathlib.Core.List.{List, [], ◌∷◌}
 use native.Mathlib.Omega.{arith}
 use lib.Dec.{eqb, ltb}
 use borrow.Author.Tests.{eqb-true, eqb-false, ne_eqb, ltb-true, ltb-false}
+use Rattle.std.specs.Prelude.{Option, None}
 use Rattle.bits.specs.Choice.{pick}
+use Rattle.reads_rules.specs.declared.read.Read.{Read}
 use Rattle.reads_rules.specs.declared.origin.Origin.{Origin}
-use Rattle.reads_rules.specs.declared.state.State.{State}
-use Rattle.reads_rules.specs.declared.state.State.TheVariants.{Free}
 use Rattle.reads_slots.specs.Inner.Fits.{FitsIn}
 use Rattle.reads.specs.declared.table.Table.{Table}
 use Rattle.reads.specs.Tables.{tag_limit, new_table, state_at, with_state}
@@ -29,19 +29,19 @@ module _ (o : Origin) where
   holding-same zero r r₂ h = refl
   holding-same (suc n) r r₂ h = rw (holding-same n r r₂ (λ u k. h u (omega arith)), h n (omega arith))
 
-  holding-none : (n : ℕ) (r : Records) → ((u : ℕ) → u < n → r u ≡ Free) → holding o n r ≡ new_table o
+  holding-none : (n : ℕ) (r : Records) → ((u : ℕ) → u < n → r u ≡ None) → holding o n r ≡ new_table o
   unfolding holding
   holding-none zero r h = refl
   holding-none (suc n) r h = rw (holding-none n r (λ u k. h u (omega arith)), h n (omega arith)) (new-freed o n)
 
   -- a tag past the records put in, freed
-  holding-freed : (n : ℕ) (r : Records) (u : ℕ) → n ≤ u → with_state (holding o n r) u Free ≡ holding o n r
+  holding-freed : (n : ℕ) (r : Records) (u : ℕ) → n ≤ u → with_state (holding o n r) u None ≡ holding o n r
   unfolding holding
   holding-freed zero r u h = new-freed o u
-  holding-freed (suc n) r u h = with-order (holding o n r) n u (r n) Free (λ e. omega arith) ∙ rw (holding-freed n r u (omega arith))
+  holding-freed (suc n) r u h = with-order (holding o n r) n u (r n) None (λ e. omega arith) ∙ rw (holding-freed n r u (omega arith))
 
   -- one of the records put in again
-  holding-with : (n : ℕ) (r : Records) (u : ℕ) (x : State) → u < n → with_state (holding o n r) u x ≡ holding o n (λ v. pick (eqb u v) x (r v))
+  holding-with : (n : ℕ) (r : Records) (u : ℕ) (x : Option Read) → u < n → with_state (holding o n r) u x ≡ holding o n (λ v. pick (eqb u v) x (r v))
   unfolding holding
   holding-with zero r u x h = absurd (omega arith)
   holding-with (suc n) r u x h = go (eqb u n) refl (holding-with n r u x)
@@ -61,7 +61,7 @@ module _ (o : Origin) where
   abbrev Formed : Table → Type 0
   Formed t = t ≡ holding o (tag_limit o.settings) (state_at t)
 
-  with-formed : (t : Table) (u : ℕ) (x : State) → limit_of t ≡ tag_limit o.settings → Sized t → FitsIn x → (limit_of t ≤ u → x ≡ Free) → Formed t → Formed (with_state t u x)
+  with-formed : (t : Table) (u : ℕ) (x : Option Read) → limit_of t ≡ tag_limit o.settings → Sized t → FitsIn x → (limit_of t ≤ u → x ≡ None) → Formed t → Formed (with_state t u x)
   with-formed t u x l size f over e = go (ltb u (tag_limit o.settings)) refl
     where
       states : (v : ℕ) → state_at (with_state t u x) v ≡ pick (eqb u v) x (state_at t v)
@@ -84,7 +84,7 @@ module _ (o : Origin) where
           ∙ holding-same (tag_limit o.settings) _ _ (λ v k. sym (states v)))
       go false h =
           let k = ltb-false u (tag_limit o.settings) h in
-          put ∙ (ap (λ (y : State). with_state (holding o (tag_limit o.settings) (state_at t)) u y) (over (rw l k))
+          put ∙ (ap (λ (y : Option Read). with_state (holding o (tag_limit o.settings) (state_at t)) u y) (over (rw l k))
           ∙ (holding-freed (tag_limit o.settings) (state_at t) u k ∙ holding-same (tag_limit o.settings) _ _ (λ v m. sym (states v ∙ kept k v))))
 
   moved-formed : (t : Table) (tag : ℕ) (c : Change) → limit_of t ≡ tag_limit o.settings → Sized t → Fair t tag c → Formed t → Formed (moved c t tag)
@@ -93,7 +93,7 @@ module _ (o : Origin) where
       with-formed t tag _ l size (fits_after t tag (opens q) f) (λ h. let k : tag < limit_of t = f.within in absurd (omega arith)) e
   moved-formed t tag (adds b) l size f e =
       with-formed t tag _ l size (fits_after t tag (adds b) f) (λ h. rw (state-over t tag h)) e
-  moved-formed t tag closes l size f e = with-formed t tag Free l size (fits_after t tag closes tt) (λ h. refl) e
+  moved-formed t tag closes l size f e = with-formed t tag None l size (fits_after t tag closes tt) (λ h. refl) e
 
   next-formed : (t : Table) (c : Call) → Sound o t → Formed t → Formed (next t c)
   next-formed t c g e = rw (next-moved t c) (moved-formed t (event_tag (answered t c)) (event_change (answered t c)) (limit-of g) g.size (fair t c) e)

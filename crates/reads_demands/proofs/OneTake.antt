@@ -8,10 +8,12 @@ use native.Mathlib.Omega.{arith}
 use lib.Dec.{eqb}
 use lib.ListN.{length}
 use borrow.Author.Tests.{eqb-true}
+use Rattle.tlp.specs.Refusals.{answered}
+use Rattle.tlp.specs.declared.refusal.Refusal.TheVariants.{BadSetting}
 use Rattle.bits.specs.Choice.{pick}
 use Rattle.tlp.specs.Rows.{first}
 use Rattle.tlp.specs.declared.packet.Packet.{Packet}
-use Rattle.tlp_read.specs.Read.{read_rows, read_packet, answer_of, payload_of, packet_in, payload_in}
+use Rattle.tlp_read.specs.Read.{read_rows, read_packet, payload_of, packet_in, payload_in}
 use Rattle.reads_rules.specs.declared.read.Read.{Read}
 use Rattle.reads_rules.specs.Windows.{holds_window}
 use Rattle.reads_rules.specs.Validity.{owed_of}
@@ -32,8 +34,8 @@ use Rattle.reads_demands.proofs.CleanPieces.{CleanPiece, clean-bytes, bytes-clea
 -- ---- table and store afterwards, by the answer
 
 table-by : (t : Table) (p : Packet) (room : ℕ) (v : Bool) (n : ℕ) (x : TakeAnswer)
-    → (pick v (answer_taking t (answer_of n p) room) (record { table = t; answer = Refused 11 })).answer ≡ x
-    → (pick v (answer_taking t (answer_of n p) room) (record { table = t; answer = Refused 11 })).table ≡ table_given x t (piece_of p)
+    → (pick v (answer_taking t (answered n p) room) (record { table = t; answer = Refused BadSetting })).answer ≡ x
+    → (pick v (answer_taking t (answered n p) room) (record { table = t; answer = Refused BadSetting })).table ≡ table_given x t (piece_of p)
 unfolding packet_taking
 table-by t p room true zero x e = rw (← e)
 table-by t p room true (suc n) x e = rw (← e)
@@ -44,8 +46,8 @@ unfolding take_call read_packet
 take-table t b room x e = table-by t (packet_in b) room (valid_table t) (first (read_rows t.origin.settings b)) x e
 
 store_by : (t : Table) (p : Packet) (b store : List ℕ) (v : Bool) (n : ℕ) (x : TakeAnswer)
-    → (pick v (answer_taking t (answer_of n p) (length store)) (record { table = t; answer = Refused 11 })).answer ≡ x
-    → pick v (answer_store t (answer_of n p) b store) store ≡ store_given x (read_in (state_at t (tag_of p))) (payload_of p b) store
+    → (pick v (answer_taking t (answered n p) (length store)) (record { table = t; answer = Refused BadSetting })).answer ≡ x
+    → pick v (answer_store t (answered n p) b store) store ≡ store_given x (read_in (state_at t (tag_of p))) (payload_of p b) store
 unfolding packet_taking packet_store
 store_by t p b store true zero x e = rw (← e)
 store_by t p b store true (suc n) x e = rw (← e)

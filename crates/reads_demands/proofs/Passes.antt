@@ -8,24 +8,27 @@ use mathlib.Core.List.{List, ◌∷◌, ◌++◌}
 use native.Mathlib.Omega.{arith}
 use lib.Dec.{eqb}
 use borrow.Author.Tests.{eqb-true, eqb-false, eq-eqb, not-false}
+use Rattle.std.specs.Prelude.{Option, Some, None}
+use Rattle.tlp.specs.Refusals.{refusal, answered, checked, number_in}
+use Rattle.tlp.proofs.RefusalLaws.{number-answered}
+use Rattle.tlp.specs.declared.settings.Settings.{Settings}
+use Rattle.tlp.specs.declared.refusal.Refusal.TheVariants.{BadSetting}
 use Rattle.bits.specs.Choice.{pick}
 use Rattle.tlp.specs.Rows.{row, first, NoneHold}
 use Rattle.tlp.proofs.RowLaws.{some_of, none_of, first-none, none_first, none-split}
 use Rattle.tlp.specs.declared.packet.Packet.{Packet}
-use Rattle.tlp_read.specs.Read.{read_rows, read_packet, answer_of, packet_in}
+use Rattle.tlp_read.specs.Read.{read_rows, read_packet, packet_in}
 use Rattle.reads_rules.specs.declared.read.Read.{Read}
 use Rattle.reads_rules.specs.declared.piece.Piece.{Piece}
 use Rattle.reads_rules.specs.Windows.{holds_window}
 use Rattle.reads_rules.specs.Validity.{owed_of}
 use Rattle.reads_rules.specs.Pieces.{is_completion, piece_of, piece_in}
 use Rattle.reads_rules.specs.Continuations.{succeeds, legal, reported}
-use Rattle.reads_rules.specs.declared.state.State.{State}
-use Rattle.reads_rules.specs.declared.state.State.TheVariants.{Free, Open}
 use Rattle.reads_rules.specs.States.{is_open}
 use Rattle.reads.specs.declared.table.Table.{Table}
 use Rattle.reads_answers.specs.declared.TakeAnswer.{TakeAnswer}
 use Rattle.reads_answers.specs.declared.TakeAnswer.TheVariants.{More, Done, Failed, Poisoned, Unread, Refused}
-use Rattle.reads_answers.specs.Takes.{read_in, tag_of, own_rows, outcome, number_or, packet_answer}
+use Rattle.reads_answers.specs.Takes.{read_in, tag_of, own_rows, outcome, refused_or, packet_answer}
 use Rattle.reads.specs.Tables.{state_at, valid_table}
 use Rattle.reads.specs.Answers.{take_number}
 use Rattle.reads.specs.TakeCall.{packet_taking, answer_taking, take_call}
@@ -61,29 +64,36 @@ outcome-says r c = go (succeeds c) c.poisoned (eqb c.length (owed_of r)) refl re
 
 -- ---- the number: 11, the reader's, then the table's own
 
-number-or : (n : ℕ) (x : TakeAnswer) → take_number x ≡ 0 → take_number (number_or n x) ≡ n
-number-or zero x e = e
-number-or (suc n) x e = refl
+number-or : (n : ℕ) (x : TakeAnswer) → take_number x ≡ 0 → number_in (checked n) ≡ n → take_number (refused_or (checked n) x) ≡ n
+number-or zero x e h = e
+number-or (suc n) x e h = h
 
 packet-number : (t : Table) (p : Packet) (room : ℕ) → take_number (packet_answer t.origin (state_at t (tag_of p)) p room) ≡ first (own_rows t.origin (state_at t (tag_of p)) p room)
-unfolding packet_answer
+unfolding packet_answer refusal
 packet-number t p room =
     let x = state_at t (tag_of p) in
-    number-or (first (own_rows t.origin x p room)) (outcome (read_in x) (piece_of p)) (outcome-says (read_in x) (piece_of p)).0
+    number-or (first (own_rows t.origin x p room)) (outcome (read_in x) (piece_of p)) (outcome-says (read_in x) (piece_of p)).0 (number-answered tt (own_rows t.origin x p room) refl)
 
-open-read : (x : State) → is_open x ≡ true → x ≡ Open (read_in x)
-open-read Free e = absurd (false≢true e)
-open-read (Open r) e = refl
+-- the reader's number
+read-listed : (settings : Settings) (b : List ℕ) (n : ℕ) → n ≡ first (read_rows settings b) → number_in (checked n) ≡ n
+unfolding refusal
+read-listed settings b n e =
+    let k : number_in (checked (first (read_rows settings b))) ≡ first (read_rows settings b) = number-answered tt (read_rows settings b) refl in
+    rw (← e) at k
+
+open-read : (x : Option Read) → is_open x ≡ true → x ≡ Some (read_in x)
+open-read None e = absurd (false≢true e)
+open-read (Some r) e = refl
 
 module _ (t : Table) (b : List ℕ) (room : ℕ) where
-  read_number_lem : (n : ℕ) → n ≡ first (read_rows t.origin.settings b) → take_number (answer_taking t (answer_of n (packet_in b)) room).answer
+  read_number_lem : (n : ℕ) → n ≡ first (read_rows t.origin.settings b) → take_number (answer_taking t (answered n (packet_in b)) room).answer
       ≡ first (read_rows t.origin.settings b ++ own_rows t.origin (state_at t (tag_of (packet_in b))) (packet_in b) room)
   unfolding packet_taking
   read_number_lem zero e = none_of (read_rows t.origin.settings b) _ 0 _ refl e refl (packet-number t (packet_in b) room)
-  read_number_lem (suc n) e = some_of (read_rows t.origin.settings b) _ (suc n) e (λ z. omega arith)
+  read_number_lem (suc n) e = read-listed t.origin.settings b (suc n) e ∙ some_of (read_rows t.origin.settings b) _ (suc n) e (λ z. omega arith)
 
   valid-number : (v : Bool) (n : ℕ) → n ≡ first (read_rows t.origin.settings b)
-      → take_number (pick v (answer_taking t (answer_of n (packet_in b)) room) (record { table = t; answer = Refused 11 })).answer
+      → take_number (pick v (answer_taking t (answered n (packet_in b)) room) (record { table = t; answer = Refused BadSetting })).answer
       ≡ first (row 11 (not v) ∷ (read_rows t.origin.settings b ++ own_rows t.origin (state_at t (tag_of (packet_in b))) (packet_in b) room))
   unfolding first
   valid-number true n e = read_number_lem n e
@@ -133,8 +143,8 @@ module _ (t : Table) (b : List ℕ) (room : ℕ) where
       let m = k.matches in
       let same = fields-same r (piece_in b) m.traffic_class m.attributes in
       let z = (and-eq-true_iff (eqb (first (read_rows t.origin.settings b)) 0) (is_completion (packet_in b))).0 m.reads in
-      let n : NoneHold (own_rows t.origin (Open r) (packet_in b) room) = (rw z.1, (rw (eq-eqb (piece_in b).requester t.origin.requester m.requester), (same, (fields-status (piece_in b) k.status, (k.continues, (k.holds, tt)))))) in
-      rw (k.valid, eqb-true (first (read_rows t.origin.settings b)) 0 z.0, m.is_open, none_first (own_rows t.origin (Open r) (packet_in b) room) n)
+      let n : NoneHold (own_rows t.origin (Some r) (packet_in b) room) = (rw z.1, (rw (eq-eqb (piece_in b).requester t.origin.requester m.requester), (same, (fields-status (piece_in b) k.status, (k.continues, (k.holds, tt)))))) in
+      rw (k.valid, eqb-true (first (read_rows t.origin.settings b)) 0 z.0, m.is_open, none_first (own_rows t.origin (Some r) (packet_in b) room) n)
 
   -- ---- what its answer says
 

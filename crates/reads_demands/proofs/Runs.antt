@@ -7,6 +7,7 @@ use mathlib.Core.List.{List, ◌++◌}
 use native.Mathlib.Omega.{arith}
 use lib.Dec.{eqb, ltb}
 use borrow.Author.Tests.{eqb-true, eqb-false, ne_eqb, lt-ltb}
+use Rattle.std.specs.Prelude.{Option, Some, None}
 use Rattle.bits.specs.Choice.{pick}
 use Rattle.scans.proofs.BelowLaws.{all-empty}
 use Rattle.tlp.specs.Rows.{first}
@@ -18,8 +19,6 @@ use Rattle.reads_rules.specs.Requests.{request_rows}
 use Rattle.reads_rules.specs.Windows.{store_limit, window_end, place_rows, shares_byte}
 use Rattle.reads_rules.specs.Validity.{valid_read}
 use Rattle.reads_rules.specs.Pieces.{piece_in}
-use Rattle.reads_rules.specs.declared.state.State.{State}
-use Rattle.reads_rules.specs.declared.state.State.TheVariants.{Free, Open}
 use Rattle.reads_slots.specs.Slots.{valid_state, shares_in}
 use Rattle.reads_slots.specs.Inner.Fits.{FitsIn}
 use Rattle.reads_slots.proofs.RecordLaws.{free-fits, open-fits}
@@ -35,9 +34,9 @@ use Rattle.reads_demands.proofs.Steps.{after_change, moved, next-moved}
 use Rattle.reads_demands.proofs.Accepted.{FairAdd, Fair, fair, fair-at}
 
 -- whether two records' windows share a byte
-abbrev pub shares_states : State → State → Bool
-shares_states Free y = false
-shares_states (Open r) y = shares_in r.request y
+abbrev pub shares_states : Option Read → Option Read → Bool
+shares_states None y = false
+shares_states (Some r) y = shares_in r.request y
 
 -- what holds of a table made from o with listed settings, whatever calls it has met
 pub record Sound (o : Origin) (t : Table) : Type 0 where
@@ -63,14 +62,14 @@ at_tag : (t : Table) (tag u : ℕ) (c : Change) (b : Bool) → eqb tag u ≡ b �
 at_tag t tag u c true e = rw (eqb-true tag u e)
 at_tag t tag u c false e = refl
 
-state-kept : (b : Bool) (x : State) → x ≡ after_change (pick b keeps keeps) x
+state-kept : (b : Bool) (x : Option Read) → x ≡ after_change (pick b keeps keeps) x
 state-kept true x = refl
 state-kept false x = refl
 
 -- what an event leaves of a record fits its words
-fits_more : (x : State) (n : ℕ) → FitsIn x → FitsIn (advanced x n)
-fits_more Free n h = h
-fits_more (Open r) n h = open-fits r.request (r.taken + n) (h r refl)
+fits_more : (x : Option Read) (n : ℕ) → FitsIn x → FitsIn (advanced x n)
+fits_more None n h = h
+fits_more (Some r) n h = open-fits r.request (r.taken + n) (h r refl)
 
 pub fits_after : (t : Table) (tag : ℕ) (c : Change) → Fair t tag c → FitsIn (after_change c (state_at t tag))
 fits_after t tag keeps f = state-fits t tag
@@ -84,7 +83,7 @@ state-moved t tag keeps l f u = state-kept (eqb tag u) (state_at t u)
 state-moved t tag (opens q) l f u =
     state-with t tag _ l (fits_after t tag (opens q) f) (λ h. let k : tag < limit_of t = f.within in absurd (omega arith)) u ∙ at_tag t tag u (opens q) (eqb tag u) refl
 state-moved t tag (adds b) l f u = state-with t tag _ l (fits_after t tag (adds b) f) (λ h. rw (state-over t tag h)) u ∙ at_tag t tag u (adds b) (eqb tag u) refl
-state-moved t tag closes l f u = state-with t tag Free l (fits_after t tag closes tt) (λ h. refl) u ∙ at_tag t tag u closes (eqb tag u) refl
+state-moved t tag closes l f u = state-with t tag None l (fits_after t tag closes tt) (λ h. refl) u ∙ at_tag t tag u closes (eqb tag u) refl
 
 state-change : (t : Table) → Sized t → (c : Call) (u : ℕ) → state_at (next t c) u ≡ after_change (change u (answered t c)) (state_at t u)
 unfolding change
@@ -95,7 +94,7 @@ module _ {o : Origin} {t : Table} (g : Sound o t) where
   state-next c u = state-change t g.size c u
 
   -- the windows of two open tags share no byte
-  pub apart : (u v : ℕ) → u ≢ v → (r r₂ : Read) → state_at t u ≡ Open r → state_at t v ≡ Open r₂
+  pub apart : (u v : ℕ) → u ≢ v → (r r₂ : Read) → state_at t u ≡ Some r → state_at t v ≡ Some r₂
       → shares_byte r.request r₂.request ≡ false
   apart u v h r r₂ e f = rw (e, f) at (g.disjoint u v h)
 
@@ -115,7 +114,7 @@ moved-size (adds b) t tag l = size-with t tag _ l
 moved-size closes t tag l = size-with t tag _ l
 
 -- the read that a piece adds to
-pub adds-to : (t : Table) (u : ℕ) (b : List ℕ) (f : FairAdd t u b) → state_at t u ≡ Open f.read
+pub adds-to : (t : Table) (u : ℕ) (b : List ℕ) (f : FairAdd t u b) → state_at t u ≡ Some f.read
 adds-to t u b f = rw f.named at f.met.is_open
 
 valid-later : (settings : Settings) (r : Read) (p : ℕ) → valid_read settings r ≡ true → p < r.request.access.length
@@ -134,12 +133,12 @@ valid-after settings t u (adds b) k f e =
     rw (adds-to t u b f) (valid-later settings f.read _ (rw (adds-to t u b f) at e) f.below)
 valid-after settings t u closes k f e = refl
 
-shares-sym : (x y : State) → shares_states x y ≡ shares_states y x
+shares-sym : (x y : Option Read) → shares_states x y ≡ shares_states y x
 unfolding shares_byte
-shares-sym Free Free = refl
-shares-sym Free (Open r₂) = refl
-shares-sym (Open r) Free = refl
-shares-sym (Open r) (Open r₂) =
+shares-sym None None = refl
+shares-sym None (Some r₂) = refl
+shares-sym (Some r) None = refl
+shares-sym (Some r) (Some r₂) =
     and_comm (ltb r.request.start (window_end r₂.request)) (ltb r₂.request.start (window_end r.request))
 
 shares-after : (t : Table) (u : ℕ) (c : Change) → Fair t u c → (v : ℕ) → shares_states (state_at t u) (state_at t v) ≡ false

@@ -1,21 +1,17 @@
 -- One call: what it makes of the table, and what its answer makes of a tag's record by the calls alone.
 use Prim.Native.Nat.{ℕ, ◌+◌}
 use mathlib.Core.Path.{◌≡◌, refl, ◌∙◌}
-use mathlib.Core.Option.{Option, none, some}
 use mathlib.Core.List.{List, [], ◌∷◌, ◌++◌}
 use native.Mathlib.Omega.{arith}
 use lib.ListN.{length}
+use Rattle.std.specs.Prelude.{Option, Some, None, Result, Ok, Err}
+use Rattle.tlp.specs.declared.refusal.Refusal.{Refusal}
+use Rattle.reads_rules.specs.declared.read.Read.{Read}
 use Rattle.reads_rules.specs.declared.request.ReadRequest.{ReadRequest}
 use Rattle.reads_rules.specs.Pieces.{piece_in}
-use Rattle.reads_rules.specs.declared.state.State.{State}
-use Rattle.reads_rules.specs.declared.state.State.TheVariants.{Free, Open}
 use Rattle.reads.specs.declared.table.Table.{Table}
-use Rattle.reads.specs.declared.answer.OpenAnswer.{OpenAnswer}
-use Rattle.reads.specs.declared.answer.OpenAnswer.TheVariants.{Opened, Refused as OpenRefused}
 use Rattle.reads_answers.specs.declared.TakeAnswer.{TakeAnswer}
 use Rattle.reads_answers.specs.declared.TakeAnswer.TheVariants.{More, Done, Failed, Poisoned, Unread, Refused}
-use Rattle.reads.specs.declared.answer.WithdrawAnswer.{WithdrawAnswer}
-use Rattle.reads.specs.declared.answer.WithdrawAnswer.TheVariants.{Withdrawn, Refused as WithdrawRefused}
 use Rattle.reads.specs.Tables.{state_at, with_state}
 use Rattle.reads.specs.OpenCall.{table_opened, open_call}
 use Rattle.reads.specs.TakeCall.{advanced, table_given, take_call}
@@ -27,11 +23,11 @@ use Rattle.reads_demands.specs.Demand3.{next, answered}
 use Rattle.reads_demands.proofs.OneTake.{take-table}
 
 -- what a change makes of a record
-abbrev pub after_change : Change → State → State
+abbrev pub after_change : Change → Option Read → Option Read
 after_change keeps x = x
-after_change (opens q) x = Open (record { request = q; taken = 0 })
+after_change (opens q) x = Some (record { request = q; taken = 0 })
 after_change (adds b) x = advanced x (piece_in b).length
-after_change closes x = Free
+after_change closes x = None
 
 -- ---- by the calls alone
 
@@ -45,8 +41,8 @@ record-change : (c : Change) (r : Option ReadRequest) (bs : List (List ℕ))
 unfolding doublewords
 record-change keeps r bs = refl
 record-change (opens q) r bs = refl
-record-change (adds b) none bs = refl
-record-change (adds b) (some q) bs = rw (doublewords-end bs b)
+record-change (adds b) None bs = refl
+record-change (adds b) (Some q) bs = rw (doublewords-end bs b)
 record-change closes r bs = refl
 
 pub record-step : (e : Event) (h : History) (u : ℕ) → records_of (e ∷ h) u ≡ after_change (change u e) (records_of h u)
@@ -60,11 +56,11 @@ abbrev pub moved : Change → Table → ℕ → Table
 moved keeps t tag = t
 moved (opens q) t tag = with_state t tag (after_change (opens q) (state_at t tag))
 moved (adds b) t tag = with_state t tag (after_change (adds b) (state_at t tag))
-moved closes t tag = with_state t tag Free
+moved closes t tag = with_state t tag None
 
-open-moved : (x : OpenAnswer) (t : Table) (q : ReadRequest) (tag : ℕ) → table_opened x t q tag ≡ moved (open_change q x) t tag
-open-moved (Opened size) t q tag = refl
-open-moved (OpenRefused n) t q tag = refl
+open-moved : (x : Result ℕ Refusal) (t : Table) (q : ReadRequest) (tag : ℕ) → table_opened x t q tag ≡ moved (open_change q x) t tag
+open-moved (Ok size) t q tag = refl
+open-moved (Err n) t q tag = refl
 
 given-moved : (x : TakeAnswer) (t : Table) (b : List ℕ) → table_given x t (piece_in b) ≡ moved (take_change b x) t (piece_in b).header.tag
 given-moved More t b = refl
@@ -74,9 +70,9 @@ given-moved Poisoned t b = refl
 given-moved (Unread r) t b = refl
 given-moved (Refused n) t b = refl
 
-withdraw-moved : (x : WithdrawAnswer) (t : Table) (tag : ℕ) → table_withdrawn x t tag ≡ moved (withdraw_change x) t tag
-withdraw-moved Withdrawn t tag = refl
-withdraw-moved (WithdrawRefused n) t tag = refl
+withdraw-moved : (x : Result Unit Refusal) (t : Table) (tag : ℕ) → table_withdrawn x t tag ≡ moved (withdraw_change x) t tag
+withdraw-moved (Ok u) t tag = refl
+withdraw-moved (Err n) t tag = refl
 
 pub next-moved : (t : Table) (c : Call) → next t c ≡ moved (event_change (answered t c)) t (event_tag (answered t c))
 next-moved t (opening q tag store out) = unfold open_call in open-moved (open_call t q tag (length store) (length out)).answer t q tag

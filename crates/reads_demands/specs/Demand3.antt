@@ -2,15 +2,14 @@
 -- To be believed are this file and History; the theorem is `Demand3Holds`, and Instance is a list for which its
 -- premises hold.
 use Rattle.std.specs.Prelude.{ℕ, ◌+◌, ◌*◌, ◌≤◌, ◌<◌, ◌≡◌, ◌⊎◌, ◌≢◌, ◌↔◌, true, List, [], ◌∷◌, ◌++◌, length, get_or}
-use Rattle.std.proofs.Math.Option.{Option, none, some}
+use Rattle.std.specs.Prelude.{Option, Some, None}
 use Rattle.bits.specs.Choice.{pick}
 use Rattle.byte_enables.specs.Enables.{enabled}
 use Rattle.tlp.specs.Settings.{settings_listed}
+use Rattle.reads_rules.specs.declared.read.Read.{Read}
 use Rattle.reads_rules.specs.declared.request.ReadRequest.{ReadRequest}
 use Rattle.reads_rules.specs.declared.origin.Origin.{Origin}
 use Rattle.reads_rules.specs.Windows.{window_end, holds_window}
-use Rattle.reads_rules.specs.declared.state.State.{State}
-use Rattle.reads_rules.specs.declared.state.State.TheVariants.{Free, Open}
 use Rattle.reads.specs.declared.table.Table.{Table}
 use Rattle.reads_answers.specs.declared.TakeAnswer.TheVariants.{More, Done}
 use Rattle.reads.specs.Tables.{new_table, state_at, valid_table}
@@ -41,16 +40,16 @@ answered t asking = owed_event (owed_call t)
 
 -- the store lent to a call, and as the call leaves it
 abbrev pub lent : Call → Option (List ℕ)
-lent (opening q tag store out) = some store
-lent (taking b store) = some store
-lent (withdrawing tag) = none
-lent asking = none
+lent (opening q tag store out) = Some store
+lent (taking b store) = Some store
+lent (withdrawing tag) = None
+lent asking = None
 
 abbrev pub left : Table → Call → Option (List ℕ)
-left t (opening q tag store out) = some store
-left t (taking b store) = some (take_store t b store)
-left t (withdrawing tag) = none
-left t asking = none
+left t (opening q tag store out) = Some store
+left t (taking b store) = Some (take_store t b store)
+left t (withdrawing tag) = None
+left t asking = None
 
 -- the output lent to a call, and as the call leaves it
 abbrev pub output : Call → List ℕ
@@ -117,14 +116,14 @@ Undisturbed tag t (piece b store ∷ is) = Undisturbed tag (next t (taking b sto
 -- "The same store means: from opening to last piece, each open and take is lent one of equal length, with the window's
 -- bytes as the last one left them."
 abbrev pub SameWindow : ReadRequest → List ℕ → Option (List ℕ) → Type 0
-SameWindow q last none = Unit {0}
-SameWindow q last (some store) =
+SameWindow q last None = Unit {0}
+SameWindow q last (Some store) =
     (length store ≡ length last)
     × ((k : ℕ) → k < 4 * q.access.length → get_or store (q.start + k) 0 ≡ get_or last (q.start + k) 0)
 
 abbrev pub or_last : List ℕ → Option (List ℕ) → List ℕ
-or_last last none = last
-or_last last (some store) = store
+or_last last None = last
+or_last last (Some store) = store
 
 abbrev pub SameStore : ReadRequest → Table → List ℕ → List Call → Type 0
 SameStore q t last [] = Unit {0}
@@ -146,7 +145,7 @@ pub record Delivered (q : ReadRequest) (tag : ℕ) (t : Table) (store₀ : List 
     : Type 0 where
   pub taken : AllMore t mid
   pub done : (take_call (run t (calls mid)) b (length store)).answer ≡ Done
-  pub free : state_at (next (run t (calls mid)) (taking b store)) tag ≡ Free
+  pub free : state_at (next (run t (calls mid)) (taking b store)) tag ≡ None
   pub bytes : (k : ℕ) → k < 4 * q.access.length
       → get_or (take_store (run t (calls mid)) b store) (q.start + k) 0
       ≡ delivered_byte q store₀ (pieces mid ++ (b ∷ [])) k
@@ -155,14 +154,14 @@ pub record Delivered (q : ReadRequest) (tag : ℕ) (t : Table) (store₀ : List 
 -- within its limit, can hold the window"
 pub record Ends (o : Origin) (h : History) (b store : List ℕ) : Type 0 where
   pub request : ReadRequest
-  pub is_open : open_request (piece_tag b) h ≡ some request
+  pub is_open : open_request (piece_tag b) h ≡ Some request
   pub cutting : lawful_cutting o (piece_tag b) request (taken_pieces (piece_tag b) h ++ (b ∷ [])) ≡ true
   pub holds : holds_window request (length store) ≡ true
 
 -- a byte outside the window of a tag's read
-abbrev pub Outside : State → ℕ → Type 0
-Outside Free i = Unit {0}
-Outside (Open r) i = (i < r.request.start) ⊎ (window_end r.request ≤ i)
+abbrev pub Outside : Option Read → ℕ → Type 0
+Outside None i = Unit {0}
+Outside (Some r) i = (i < r.request.start) ⊎ (window_end r.request ≤ i)
 
 -- "No take changes another tag's record or a byte outside its read's window"
 pub record TakeFrame (t : Table) (b store : List ℕ) : Type 0 where

@@ -1,6 +1,6 @@
 -- Document 01, "Edges to prove (P) or run": P1 to P11, one statement over one table, shown from the definitions. To be
 -- believed are the table `edges` and what its claims mean, `holds`; that all of them hold is the theorem `EdgesHold`.
-use Rattle.std.specs.Prelude.{ℕ, ◌+◌, ◌*◌, ◌≡◌, Bool, true, false, ◌&&◌, List, [], ◌∷◌, map, eqb}
+use Rattle.std.specs.Prelude.{ℕ, ◌+◌, ◌*◌, ◌≡◌, Bool, true, false, ◌&&◌, List, [], ◌∷◌, map, eqb, Some}
 use Rattle.bits.specs.Same.{same_list}
 use Rattle.bits.specs.Field.{low}
 use Rattle.bits.specs.Word.{byte}
@@ -21,7 +21,6 @@ use Rattle.reads_rules.specs.declared.origin.Origin.{Origin}
 use Rattle.reads_rules.specs.Requests.{request_packet, request_rows}
 use Rattle.reads_rules.specs.Continuations.{byte_count_at, lower_address_at}
 use Rattle.reads_store.specs.Stores.{stored}
-use Rattle.reads_rules.specs.declared.state.State.TheVariants.{Open}
 use Rattle.reads_answers.specs.Takes.{piece_rows}
 use Rattle.cuttings.specs.Rows.{cuttings}
 
@@ -178,7 +177,7 @@ origin_with rcb = record { settings = settings_with rcb; requester = 0x0100 }
 -- the number that take gives for a first piece, into a store as long as the window
 abbrev pub piece_number : ℕ → Access → Piece → ℕ
 piece_number rcb a c =
-    first (piece_rows (origin_with rcb) (Open (record { request = request_of a; taken = 0 })) c (4 * a.length))
+    first (piece_rows (origin_with rcb) (Some (record { request = request_of a; taken = 0 })) c (4 * a.length))
 
 -- the Length field of a header, and the Byte Count field, as they stand
 abbrev pub length_field : List ℕ → ℕ

@@ -1,12 +1,11 @@
 -- Document 01, take: when it answers Failed and when Poisoned, said without its rows. Failed looks at neither 33 nor
 -- 34; Poisoned comes after both. With More and Done (Demand2) and the numbers (Demand1), every answer of take has its
 -- "exactly when". To be believed is all of this file; the theorem is `FailuresExactly`, proved in proofs/Failures.
-use Rattle.std.specs.Prelude.{ℕ, ◌≡◌, ◌⊎◌, ◌≢◌, ◌↔◌, true, false, List, length}
+use Rattle.std.specs.Prelude.{ℕ, ◌≡◌, ◌⊎◌, ◌≢◌, ◌↔◌, true, false, List, length, Some, None}
 use Rattle.reads_rules.specs.declared.read.Read.{Read}
 use Rattle.reads_rules.specs.Windows.{holds_window}
 use Rattle.reads_rules.specs.Continuations.{legal}
 use Rattle.reads_rules.specs.Pieces.{piece_in}
-use Rattle.reads_rules.specs.declared.state.State.TheVariants.{Free, Open}
 use Rattle.reads.specs.declared.table.Table.{Table}
 use Rattle.reads_answers.specs.declared.TakeAnswer.TheVariants.{Failed, Poisoned}
 use Rattle.reads.specs.Tables.{state_at, valid_table}
@@ -18,7 +17,7 @@ use Rattle.cuttings.specs.Lawful.{reads_as_completion}
 pub record Matches (t : Table) (b : List ℕ) (r : Read) : Type 0 where
   pub reads : reads_as_completion t.origin b ≡ true
   pub requester : (piece_in b).requester ≡ t.origin.requester
-  pub is_open : state_at t (piece_in b).header.tag ≡ Open r
+  pub is_open : state_at t (piece_in b).header.tag ≡ Some r
   pub traffic_class : (piece_in b).traffic_class ≡ r.request.traffic_class
   pub attributes : (piece_in b).attributes ≡ r.request.attributes
 
@@ -48,7 +47,7 @@ pub record Poisons (t : Table) (b : List ℕ) (room : ℕ) (r : Read) : Type 0 w
 
 -- "closes the tag", "writes nothing"
 pub record Closes (t : Table) (b store : List ℕ) : Type 0 where
-  pub free : state_at (take_call t b (length store)).table (piece_in b).header.tag ≡ Free
+  pub free : state_at (take_call t b (length store)).table (piece_in b).header.tag ≡ None
   pub unwritten : take_store t b store ≡ store
 
 -- "closes the tag and answers Failed with the status; nothing is written"

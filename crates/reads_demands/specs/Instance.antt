@@ -1,15 +1,13 @@
 -- Delivery, worked twice, so that its premises are seen to hold together: P2's read taken in 96+128+32 bytes, and a
 -- read with disabled bytes at both ends, taken in 8+64+8 bytes while a read of another tag is opened and taken. The
 -- theorem is a `WorkedHold`, proved in proofs/Instance; no promise cites this file.
-use Rattle.std.specs.Prelude.{ℕ, ◌*◌, ◌/◌, ◌%◌, ◌≡◌, true, List, [], ◌∷◌, ◌++◌, length, replicate, take, drop}
+use Rattle.std.specs.Prelude.{ℕ, ◌*◌, ◌/◌, ◌%◌, ◌≡◌, true, List, [], ◌∷◌, ◌++◌, length, replicate, take, drop, Ok, Err}
+use Rattle.tlp.specs.declared.refusal.Refusal.TheVariants.{TagNotOpen, NotAContinuation}
 use Rattle.tlp.specs.Settings.{settings_listed}
 use Rattle.reads_rules.specs.declared.request.ReadRequest.{ReadRequest}
 use Rattle.reads_rules.specs.declared.origin.Origin.{Origin}
 use Rattle.reads.specs.declared.table.Table.{Table}
-use Rattle.reads.specs.declared.answer.OpenAnswer.TheVariants.{Opened}
 use Rattle.reads_answers.specs.declared.TakeAnswer.TheVariants.{More, Done, Refused}
-use Rattle.reads.specs.declared.answer.WithdrawAnswer.TheVariants.{Refused as WithdrawRefused}
-use Rattle.reads.specs.declared.answer.OwedAnswer.TheVariants.{Owed}
 use Rattle.reads.specs.Tables.{new_table}
 use Rattle.reads.specs.Answers.{open_number}
 use Rattle.reads.specs.OpenCall.{open_call}
@@ -127,15 +125,15 @@ whole_worked = record {
   store = store_of 15 rest₂;
   afterwards = asking ∷ [];
   given =
-      owed_event (Owed 1)
+      owed_event (Ok 1)
       ∷ take_event piece₃ (store_of 15 rest₂) Done
       ∷ take_event piece₂ (store_of 14 rest₁) More
-      ∷ open_event short_read 6 (store_of 13 rest₁) out (Opened 12)
-      ∷ take_event piece₁ (store_of 12 rest₁) (Refused 33)
-      ∷ owed_event (Owed 40)
+      ∷ open_event short_read 6 (store_of 13 rest₁) out (Ok 12)
+      ∷ take_event piece₁ (store_of 12 rest₁) (Refused NotAContinuation)
+      ∷ owed_event (Ok 40)
       ∷ take_event piece₁ (store_of 11 rest₀) More
-      ∷ open_event whole_read 5 (store_of 10 rest₀) out (Opened 12)
-      ∷ withdraw_event 5 (WithdrawRefused 25)
+      ∷ open_event whole_read 5 (store_of 10 rest₀) out (Ok 12)
+      ∷ withdraw_event 5 (Err TagNotOpen)
       ∷ [];
   window = replicate 96 1 ++ (replicate 128 2 ++ replicate 32 3);
 }
@@ -207,15 +205,15 @@ trimmed_worked = record {
   store = store_of 16 rest₂₂;
   afterwards = asking ∷ [];
   given =
-      owed_event (Owed 0)
+      owed_event (Ok 0)
       ∷ take_event trimmed₃ (store_of 16 rest₂₂) Done
       ∷ take_event split₂ (store_of 15 rest₂₁) Done
       ∷ take_event trimmed₂ (store_of 14 rest₁₁) More
       ∷ take_event split₁ (store_of 13 rest₁₀) More
-      ∷ open_event split_read 6 (store_of 12 rest₁₀) out (Opened 12)
+      ∷ open_event split_read 6 (store_of 12 rest₁₀) out (Ok 12)
       ∷ take_event trimmed₁ (store_of 11 rest₀₀) More
-      ∷ open_event trimmed_read 5 (store_of 10 rest₀₀) out (Opened 12)
-      ∷ owed_event (Owed 0)
+      ∷ open_event trimmed_read 5 (store_of 10 rest₀₀) out (Ok 12)
+      ∷ owed_event (Ok 0)
       ∷ [];
   -- the first two and the last two bytes are as at opening
   window = 9 ∷ 9 ∷ (replicate 6 1 ++ (replicate 64 2 ++ (replicate 6 3 ++ (9 ∷ 9 ∷ []))));

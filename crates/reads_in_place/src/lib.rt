@@ -3,13 +3,19 @@
 
 ghost use Rattle.reads_in_place.specs.LentTable.{OpenLeaves, TakeLeaves, WithdrawLeaves, OwedLeaves};
 
-use reads::answer::{OpenAnswer, OwedAnswer, WithdrawAnswer};
 use reads::table::Table;
 use reads_answers::TakeAnswer;
 use reads_rules::request::ReadRequest;
+use tlp::refusal::Refusal;
 
 // Opens a read in the table: table and answer are those of open_call, the output is open_out's.
-pub fn open(t: &mut Table, q: ReadRequest, tag: u32, store: &[u8], out: &mut [u8]) -> OpenAnswer
+pub fn open(
+    t: &mut Table,
+    q: ReadRequest,
+    tag: u32,
+    store: &[u8],
+    out: &mut [u8],
+) -> Result<usize, Refusal>
     ensures { OpenLeaves t.old q tag store.now out.old result
         t.new out.new }
 {
@@ -29,7 +35,7 @@ pub fn take(t: &mut Table, bytes: &[u8], store: &mut [u8]) -> TakeAnswer
 }
 
 // Withdraws a read: table and answer are those of withdraw_call.
-pub fn withdraw(t: &mut Table, tag: u32) -> WithdrawAnswer
+pub fn withdraw(t: &mut Table, tag: u32) -> Result<(), Refusal>
     ensures { WithdrawLeaves t.old tag result t.new }
 {
     let n = Table::withdraw(*t, tag);
@@ -38,7 +44,7 @@ pub fn withdraw(t: &mut Table, tag: u32) -> WithdrawAnswer
 }
 
 // The doublewords still owed: the answer is owed_call's.
-pub fn owed(t: &Table) -> OwedAnswer
+pub fn owed(t: &Table) -> Result<u64, Refusal>
     ensures { OwedLeaves t.now result }
 {
     Table::owed(*t)

@@ -1,8 +1,8 @@
 -- A lent table over its life: the theorems `LeavesAsCore`, `LentSplits`, `LentRuns`, `LentAsCore`.
 use Prim.Native.Nat.{ℕ}
 use mathlib.Core.Path.{◌≡◌, refl, ap, ◌∙◌}
-use mathlib.Core.Option.{Option, none, some}
 use mathlib.Core.List.{List, [], ◌∷◌, ◌++◌}
+use Rattle.std.specs.Prelude.{Option, Some, None}
 use Rattle.reads.specs.declared.table.Table.{Table}
 use Rattle.reads_demands.specs.History.{Call, opening, taking, withdrawing, asking, Event, open_event, take_event, withdraw_event, owed_event}
 use Rattle.reads_demands.specs.Demand3.{next, run, answers}
@@ -13,10 +13,10 @@ use Rattle.reads_in_place_demands.specs.LentRuns.{Leaves, opens, takes, withdraw
 as_core : {t t' : Table} {c : Call} {e : Event} {store : Option (List ℕ)} {out : List ℕ} → Leaves t c e t' store out
     → record { call = c; event = e; table = t'; store = store; out = out } ≡ core_call t c
 as_core (opens {q = q} {tag = tag} {store = store} {out = out} p) =
-    λ i. record { call = opening q tag store out; event = open_event q tag store out (p.0 i).answer; table = (p.0 i).table; store = some store; out = p.1 i }
-as_core (takes {b = b} {store = store} p) = λ i. record { call = taking b store; event = take_event b store (p.0 i).answer; table = (p.0 i).table; store = some (p.1 i); out = [] }
-as_core (withdraws {tag = tag} p) = λ i. record { call = withdrawing tag; event = withdraw_event tag (p i).answer; table = (p i).table; store = none; out = [] }
-as_core (asks {t = t} p) = λ i. record { call = asking; event = owed_event (p i); table = t; store = none; out = [] }
+    λ i. record { call = opening q tag store out; event = open_event q tag store out (p.0 i).answer; table = (p.0 i).table; store = Some store; out = p.1 i }
+as_core (takes {b = b} {store = store} p) = λ i. record { call = taking b store; event = take_event b store (p.0 i).answer; table = (p.0 i).table; store = Some (p.1 i); out = [] }
+as_core (withdraws {tag = tag} p) = λ i. record { call = withdrawing tag; event = withdraw_event tag (p i).answer; table = (p i).table; store = None; out = [] }
+as_core (asks {t = t} p) = λ i. record { call = asking; event = owed_event (p i); table = t; store = None; out = [] }
 
 pub leaves-as-core : LeavesAsCore
 leaves-as-core t m l = as_core l

@@ -3,12 +3,10 @@
 -- step of the core stands; supposed are the contracts (`Lent`), which are equations with the core's calls. To be
 -- believed are this file, LentRuns and, of crate reads_demands, History and what is used here of Demand3. The theorem
 -- is `LentDemand3Holds`, and LentInstance has runs for which its premises hold.
-use Rattle.std.specs.Prelude.{ℕ, ◌+◌, ◌*◌, ◌<◌, ◌≡◌, ◌≢◌, ◌↔◌, true, List, [], ◌∷◌, ◌++◌, length, get_or}
-use Rattle.std.proofs.Math.Option.{some}
+use Rattle.std.specs.Prelude.{ℕ, ◌+◌, ◌*◌, ◌<◌, ◌≡◌, ◌≢◌, ◌↔◌, true, List, [], ◌∷◌, ◌++◌, length, get_or, Some, None}
 use Rattle.tlp.specs.Settings.{settings_listed}
 use Rattle.reads_rules.specs.declared.request.ReadRequest.{ReadRequest}
 use Rattle.reads_rules.specs.declared.origin.Origin.{Origin}
-use Rattle.reads_rules.specs.declared.state.State.TheVariants.{Free}
 use Rattle.reads.specs.declared.table.Table.{Table}
 use Rattle.reads_answers.specs.declared.TakeAnswer.TheVariants.{More, Done}
 use Rattle.reads.specs.Tables.{new_table, state_at, valid_table}
@@ -58,9 +56,9 @@ pub record LentDelivered (q : ReadRequest) (tag : ℕ) (store₀ : List ℕ) (mi
     (last : LentCall) : Type 0 where
   pub taken : LentAllMore mid
   pub done : last.event ≡ take_event b store Done
-  pub free : state_at last.table tag ≡ Free
+  pub free : state_at last.table tag ≡ None
   pub left : List ℕ
-  pub is_left : last.store ≡ some left
+  pub is_left : last.store ≡ Some left
   pub bytes : (k : ℕ) → k < 4 * q.access.length
       → get_or left (q.start + k) 0 ≡ delivered_byte q store₀ (pieces_in mid ++ (b ∷ [])) k
 
@@ -68,7 +66,7 @@ pub record LentDelivered (q : ReadRequest) (tag : ℕ) (store₀ : List ℕ) (mi
 pub record LentTakeFrame (t : Table) (b store : List ℕ) (m : LentCall) : Type 0 where
   pub others : (u : ℕ) → piece_tag b ≢ u → state_at m.table u ≡ state_at t u
   pub left : List ℕ
-  pub is_left : m.store ≡ some left
+  pub is_left : m.store ≡ Some left
   pub size : length left ≡ length store
   pub bytes : (i : ℕ) → Outside (state_at t (piece_tag b)) i → get_or left i 0 ≡ get_or store i 0
 

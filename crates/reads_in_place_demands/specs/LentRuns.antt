@@ -2,13 +2,10 @@
 -- the core's run: the same answers, tables, stores and outputs. To be believed are `Leaves`, `LentCall`, `Lent`, and
 -- what a run left: `calls_of`, `table_after`, `history_of`. The theorems are `LeavesAsCore`, `LentSplits`, `LentRuns`,
 -- `LentAsCore`; demand 3 of such a run is in LentDemand3.
-use Rattle.std.specs.Prelude.{ℕ, ◌≡◌, ◌↔◌, List, [], ◌∷◌, ◌++◌}
-use Rattle.std.proofs.Math.Option.{Option, none, some}
+use Rattle.std.specs.Prelude.{ℕ, ◌≡◌, ◌↔◌, List, [], ◌∷◌, ◌++◌, Option, Some, None, Result}
+use Rattle.tlp.specs.declared.refusal.Refusal.{Refusal}
 use Rattle.reads_rules.specs.declared.request.ReadRequest.{ReadRequest}
 use Rattle.reads_answers.specs.declared.TakeAnswer.{TakeAnswer}
-use Rattle.reads.specs.declared.answer.OpenAnswer.{OpenAnswer}
-use Rattle.reads.specs.declared.answer.WithdrawAnswer.{WithdrawAnswer}
-use Rattle.reads.specs.declared.answer.OwedAnswer.{OwedAnswer}
 use Rattle.reads.specs.declared.table.Table.{Table}
 use Rattle.reads_demands.specs.History.{Call, opening, taking, withdrawing, asking, History}
 use Rattle.reads_demands.specs.History.{Event, open_event, take_event, withdraw_event, owed_event}
@@ -18,16 +15,16 @@ use Rattle.reads_in_place.specs.LentTable.{OpenLeaves, TakeLeaves, WithdrawLeave
 -- a call on a lent table t, with its answer: the table t', store and output that it leaves, by its contract; what is
 -- lent by `&` stays as it is
 pub data Leaves : Table → Call → Event → Table → Option (List ℕ) → List ℕ → Type 0 where
-  opens : {t t' : Table} {q : ReadRequest} {tag : ℕ} {store out out' : List ℕ} {x : OpenAnswer}
+  opens : {t t' : Table} {q : ReadRequest} {tag : ℕ} {store out out' : List ℕ} {x : Result ℕ Refusal}
       → OpenLeaves t q tag store out x t' out'
-      → Leaves t (opening q tag store out) (open_event q tag store out x) t' (some store) out'
+      → Leaves t (opening q tag store out) (open_event q tag store out x) t' (Some store) out'
   takes : {t t' : Table} {b store store' : List ℕ} {x : TakeAnswer}
       → TakeLeaves t b store x t' store'
-      → Leaves t (taking b store) (take_event b store x) t' (some store') []
-  withdraws : {t t' : Table} {tag : ℕ} {x : WithdrawAnswer}
+      → Leaves t (taking b store) (take_event b store x) t' (Some store') []
+  withdraws : {t t' : Table} {tag : ℕ} {x : Result Unit Refusal}
       → WithdrawLeaves t tag x t'
-      → Leaves t (withdrawing tag) (withdraw_event tag x) t' none []
-  asks : {t : Table} {x : OwedAnswer} → OwedLeaves t x → Leaves t asking (owed_event x) t none []
+      → Leaves t (withdrawing tag) (withdraw_event tag x) t' None []
+  asks : {t : Table} {x : Result ℕ Refusal} → OwedLeaves t x → Leaves t asking (owed_event x) t None []
 
 -- a call on a lent table as it was made: its answer, and the table, store and output that it left
 pub record LentCall : Type 0 where

@@ -1,4 +1,2 @@
 pub mod RequestLaws
-mod WindowLaws
-mod PieceLaws
 mod ContinuationLaws

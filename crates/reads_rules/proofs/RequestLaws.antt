@@ -1,10 +1,10 @@
 -- Laws of open's 6, 7 and 8, and of the validity test that repeats them, in the words of the returns.
-use Prim.Native.Nat.{ℕ, ◌+◌, ◌-◌, ◌*◌, ◌%◌, ◌^◌, ◌<◌}
+use Prim.Native.Nat.{ℕ, ◌+◌, ◌*◌, ◌%◌, ◌^◌, ◌<◌}
 use mathlib.Core.Path.{◌≡◌, refl, sym, ◌∙◌}
-use mathlib.Core.Bool.{Bool, true, false, ◌||◌, ◌&&◌, not, and-false, true≢false, not-not}
+use mathlib.Core.Bool.{Bool, true, false, ◌||◌, ◌&&◌, not, and-false, true≢false}
 use native.Mathlib.Omega.{arith}
 use lib.Dec.{eqb, leb, ltb}
-use borrow.Author.Tests.{le-leb, lt-leb, leb-false, ltb-false}
+use borrow.Author.Tests.{le-leb, lt-leb, lt-ltb, le-ltb, leb-true, leb-false, ltb-false}
 use Rattle.bits.specs.Choice.{pick}
 use Rattle.tlp.specs.Rows.{first}
 use Rattle.tlp.specs.PacketTypes.{family_of, is_io_or_config, has_data}
@@ -17,9 +17,8 @@ use Rattle.tlp_writable.specs.Given.{length_bad, common_bad, request_bad, own_ba
 use Rattle.byte_enables.specs.Enables.{enables_allowed}
 use Rattle.reads_rules.specs.Requests.{request_packet, given_bad}
 use Rattle.reads_rules.specs.Windows.{store_limit, place_bad}
-use Rattle.reads_rules.specs.Validity.{valid_read, owed_of}
-use Rattle.reads_rules.specs.Inner.Faults.{fields_over, reach_bad}
-use Rattle.reads_rules.proofs.WindowLaws.{below}
+use Rattle.reads_rules.specs.Validity.{valid_read}
+use Rattle.reads_rules.specs.Inner.Faults.{fields_over, unaligned, read_faults}
 use Rattle.reads_rules.specs.declared.request.ReadRequest.{ReadRequest}
 use Rattle.reads_rules.specs.declared.read.Read.{Read}
 use Rattle.tlp.specs.declared.settings.Settings.{Settings}
@@ -42,15 +41,11 @@ six false false false false true f g h = refl
 six false false false false false true g h = rw h
 six false false false false false false g h = rw h
 
-module _ (q : ReadRequest) where
-  abbrev unaligned : Bool
-  unaligned = not (eqb (q.access.address % 4) 0)
-
-  pub given-law : (r : Bool) → q.access.address < 2 ^ 64 → r ≡ (fields_over q || (length_bad q.access.length || unaligned)) → r ≡ given_bad q
-  unfolding given_bad first request_packet common_bad own_bad request_bad reserved_given route_bad address_route_bad type_of
-  given-law r h e =
-      rw (lt-leb (2 ^ 64) q.access.address h, plain_form)
-      (e ∙ sym (six (leb 8 q.traffic_class) (leb 8 q.attributes) (length_bad q.access.length) (leb 16 q.access.first) (leb 16 q.access.last) unaligned false refl))
+pub given_law : (q : ReadRequest) (r : Bool) → q.access.address < 2 ^ 64 → r ≡ (fields_over q || (length_bad q.access.length || unaligned q)) → r ≡ given_bad q
+unfolding given_bad first request_packet common_bad own_bad request_bad reserved_given route_bad address_route_bad type_of
+given_law q r h e =
+    rw (lt-leb (2 ^ 64) q.access.address h, plain_form)
+    (e ∙ sym (six (leb 8 q.traffic_class) (leb 8 q.attributes) (length_bad q.access.length) (leb 16 q.access.first) (leb 16 q.access.last) (unaligned q) false refl))
 
 -- what open writes is a memory request without data, in either form
 pub read-type : (requester tag : ℕ) (q : ReadRequest)
@@ -63,6 +58,14 @@ read-type requester tag q = go (ltb q.access.address (2 ^ 32))
     go false = (refl, λ n. refl)
 
 -- ---- validity
+
+-- the two tests of an order deny each other
+below : (a b : ℕ) → ltb a b ≡ not (leb b a)
+below a b = go (leb b a) refl
+  where
+    go : (x : Bool) → leb b a ≡ x → ltb a b ≡ not x
+    go true e = le-ltb a b (leb-true b a e)
+    go false e = lt-ltb a b (leb-false b a e)
 
 -- f: a field exceeded, d: unaligned, t: p not below L, c: 8, m: 22, p: 23, e: enables allowed, l: a length that is none
 decided : (f d t c m p e l : Bool) → (t ≡ false → c ≡ false → l ≡ false)
@@ -90,31 +93,9 @@ module _ (settings : Settings) (x : Read) where
       let b = ltb-false 4096 (x.request.access.address % 4096 + 4 * x.request.access.length) c in
       rw (le-leb 1 x.request.access.length (omega arith), le-leb x.request.access.length 1024 (omega arith))
 
-  abbrev bad : Bool
-  bad = fields_over x.request || (unaligned x.request || (leb x.request.access.length x.taken || reach_bad settings x.request))
-
-  not-bad : x.request.access.address < 2 ^ 64 → not bad ≡ valid_read settings x
-  unfolding valid_read first enables_bad page_bad
+  pub not-bad : x.request.access.address < 2 ^ 64 → not (read_faults settings x) ≡ valid_read settings x
+  unfolding valid_read first enables_bad page_bad read_faults
   not-bad h =
-      rw (← given-law x.request _ h refl, below x.taken x.request.access.length)
+      rw (← given_law x.request _ h refl, below x.taken x.request.access.length)
       (decided (fields_over x.request) (unaligned x.request) (leb x.request.access.length x.taken) (crosses_page x.request.access) (ltb settings.mrrs (4 * x.request.access.length))
       (place_bad x.request store_limit) (enables_allowed x.request.access) (length_bad x.request.access.length) length-good)
-
-  pub bad-law : (b : Bool) → x.request.access.address < 2 ^ 64 → b ≡ bad → b ≡ not (valid_read settings x)
-  bad-law b h e = rw (← not-bad h, not-not) e
-
-pub not_same : (r b : Bool) → r ≡ b → not r ≡ not b
-not_same r b e = rw e
-
-pub valid-not-bad : (settings : Settings) (x : Read) (b : Bool) → b ≡ not (valid_read settings x) → not b ≡ valid_read settings x
-valid-not-bad settings x b e = rw e (not-not (valid_read settings x))
-
-pub owed_none : (r : Read) → r.request.access.length < r.taken → 0 ≡ owed_of r
-unfolding owed_of
-owed_none r h = omega arith
-
-pub owed-some : (r : Read) → r.request.access.length - r.taken ≡ owed_of r
-unfolding owed_of
-owed-some r = refl
-
-pub ruleset owed-laws = (owed_none, owed-some)

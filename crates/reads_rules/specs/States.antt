@@ -1,9 +1,8 @@
--- Document 01: "A tag's record is whether it is open and, if so, p and what open got". To be believed.
-use Rattle.std.specs.Prelude.{Bool, true, false}
-use Rattle.reads_rules.specs.declared.state.State.{State}
-use Rattle.reads_rules.specs.declared.state.State.TheVariants.{Free, Open}
+-- Document 01: "A tag's record is whether it is open and, if so, p and what open got": a read, or none. To be
+-- believed.
+use Rattle.std.specs.Prelude.{Bool, Option, is_some}
+use Rattle.reads_rules.specs.declared.read.Read.{Read}
 
 -- whether a record holds a read
-abbrev pub is_open : State → Bool
-is_open Free = false
-is_open (Open r) = true
+abbrev pub is_open : Option Read → Bool
+is_open x = is_some x

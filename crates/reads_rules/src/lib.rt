@@ -6,6 +6,5 @@ pub mod origin;
 pub mod piece;
 pub mod read;
 pub mod request;
-pub mod state;
 pub mod validity;
 pub mod window;

@@ -36,41 +36,27 @@ fn header_in(k: Kind) -> CompletionHeader
     ensures { result ≡ header_in k }
 {
     match k {
-        Kind::MemoryRead(_) => no_header(),
-        Kind::MemoryWrite(_) => no_header(),
-        Kind::IoRead(_) => no_header(),
-        Kind::IoWrite(_) => no_header(),
-        Kind::ConfigRead0(_) => no_header(),
-        Kind::ConfigWrite0(_) => no_header(),
-        Kind::ConfigRead1(_) => no_header(),
-        Kind::ConfigWrite1(_) => no_header(),
-        Kind::Message(_) => no_header(),
-        Kind::MessageData {
-            message: _,
+        Kind::Completion(c)
+        | Kind::CompletionData {
+            completion: c,
             length: _,
-        } => no_header(),
-        Kind::Completion(c) => c,
-        Kind::CompletionData {
-            completion,
-            length: _,
-        } => completion,
+        } => c,
+        _ => no_header(),
     }
 }
 
 // The packet as a completion.
+#[tactic(auto, unfolding(crate::specs::Pieces::piece_of))]
 pub fn piece_of(p: Packet) -> Piece
     ensures { result ≡ piece_of p }
 {
-    let a = access_of(p);
-    let r = p.route;
-    let k = p.kind;
     Piece {
-        requester: id_of(r),
+        requester: id_of(p.route),
         traffic_class: p.traffic_class,
         attributes: p.attributes,
         poisoned: p.poisoned,
         with_data: has_data(type_of(p)),
-        length: a.length,
-        header: header_in(k),
+        length: access_of(p).length,
+        header: header_in(p.kind),
     }
 }

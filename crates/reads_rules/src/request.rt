@@ -1,12 +1,14 @@
 // A memory read as open is asked for it, and the numbers that the writer gives for its header.
 ghost use Rattle.std.specs.Prelude.{◌≡◌};
 ghost use Rattle.tlp.specs.Rows.{first};
+ghost use Rattle.tlp.specs.Refusals.{checked};
 ghost use Rattle.reads_rules.specs.Requests.{request_packet, given_bad, request_rows};
 ghost use Rattle.reads_rules.specs.Inner.Faults.{fields_over};
 
-use byte_enables::{Access, enables_allowed};
-use tlp::content::crosses_page;
+use byte_enables::Access;
+use tlp::content::memory_fault;
 use tlp::packet::{Kind, Packet, Request, Route};
+use tlp::refusal::Refusal;
 use tlp_writable::outside_of;
 
 // What open gets of a read: address, length and enables, traffic class, attributes, and where its window starts in
@@ -32,8 +34,8 @@ pub fn request_packet(requester: u16, tag: u8, q: ReadRequest) -> Packet
         digest: 0,
         route: Route::Address(a.address),
         kind: Kind::MemoryRead(Request {
-            requester: requester,
-            tag: tag,
+            requester,
+            tag,
             length: a.length,
             first: a.first,
             last: a.last,
@@ -45,46 +47,24 @@ pub fn request_packet(requester: u16, tag: u8, q: ReadRequest) -> Packet
 pub(crate) fn fields_over(q: ReadRequest) -> bool
     ensures { result ≡ fields_over q }
 {
-    let a = q.access;
-    if 8 <= q.traffic_class {
-        return true;
-    }
-    if 8 <= q.attributes {
-        return true;
-    }
-    if 16 <= a.first {
-        return true;
-    }
-    16 <= a.last
+    8 <= q.traffic_class || 8 <= q.attributes || 16 <= q.access.first || 16 <= q.access.last
 }
 
 // The writer's first place for 6.
+#[tactic(auto, using(crate::proofs::RequestLaws::given_law))]
 fn given_bad(q: ReadRequest) -> bool
     ensures { result ≡ given_bad q }
 {
-    let a = q.access;
-    if fields_over(q) {
-        return true;
-    }
-    if outside_of(1024, a.length) {
-        return true;
-    }
-    a.address % 4 != 0
+    fields_over(q) || outside_of(1024, q.access.length) || q.access.address % 4 != 0
 }
 
-// The first of 6, 7 and 8 that holds; 0 where none does.
-pub fn request_number(q: ReadRequest) -> u32
-    ensures { result ≡ first (request_rows q) }
+// The first of 6, 7 and 8 that holds.
+#[tactic(auto, unfolding(tlp::specs::Rows::first, tlp::specs::Refusals::refusal, tlp::specs::Contents::enables_bad, tlp::specs::Contents::page_bad))]
+pub fn request_fault(q: ReadRequest) -> Result<(), Refusal>
+    ensures { result ≡ checked (first (request_rows q)) }
 {
     if given_bad(q) {
-        return 6;
+        return Err(Refusal::BadField);
     }
-    let a = q.access;
-    if !enables_allowed(a) {
-        return 7;
-    }
-    if crosses_page(a) {
-        return 8;
-    }
-    0
+    memory_fault(q.access)
 }

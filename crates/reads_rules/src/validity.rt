@@ -1,7 +1,7 @@
 // Whether a table may hold an open read, and what is still owed of it.
-ghost use Rattle.std.specs.Prelude.{◌≡◌, not};
+ghost use Rattle.std.specs.Prelude.{◌≡◌};
 ghost use Rattle.reads_rules.specs.Validity.{valid_read, owed_of};
-ghost use Rattle.reads_rules.specs.Inner.Faults.{reach_bad};
+ghost use Rattle.reads_rules.specs.Inner.Faults.{reach_bad, read_faults};
 
 use crate::read::Read;
 use crate::request::{ReadRequest, fields_over};
@@ -14,36 +14,23 @@ use tlp::settings::Settings;
 fn reach_bad(settings: Settings, q: ReadRequest) -> bool
     ensures { result ≡ reach_bad settings q }
 {
-    let a = q.access;
-    if crosses_page(a) {
-        return true;
-    }
-    if over_request_size(settings, q) {
-        return true;
-    }
-    if place_bad(q, STORE_LIMIT) {
-        return true;
-    }
-    !enables_allowed(a)
+    crosses_page(q.access)
+        || over_request_size(settings, q)
+        || place_bad(q, STORE_LIMIT)
+        || !enables_allowed(q.access)
 }
 
 // What no valid record has. Of the length nothing is asked: one that p is below and that stays within its page is 1
 // to 1024.
+#[tactic(auto, unfolding(crate::specs::Inner::Faults::read_faults))]
 fn read_bad(settings: Settings, r: Read) -> bool
-    ensures { result ≡ not (valid_read settings r) }
+    ensures { result ≡ read_faults settings r }
 {
     let q = r.request;
-    let a = q.access;
-    if fields_over(q) {
-        return true;
-    }
-    if a.address % 4 != 0 {
-        return true;
-    }
-    if a.length <= r.taken {
-        return true;
-    }
-    reach_bad(settings, q)
+    fields_over(q)
+        || q.access.address % 4 != 0
+        || q.access.length <= r.taken
+        || reach_bad(settings, q)
 }
 
 // Whether open would accept the read's fields, with the longest store, and part of it is still owed.
@@ -54,13 +41,9 @@ pub fn valid_read(settings: Settings, r: Read) -> bool
 }
 
 // The doublewords still owed.
+#[tactic(auto, unfolding(crate::specs::Validity::owed_of))]
 pub fn owed_of(r: Read) -> u32
     ensures { result ≡ owed_of r }
 {
-    let q = r.request;
-    let a = q.access;
-    if a.length < r.taken {
-        return 0;
-    }
-    a.length - r.taken
+    r.request.access.length.saturating_sub(r.taken)
 }

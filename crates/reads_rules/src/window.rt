@@ -1,9 +1,11 @@
 // Where the bytes of a read go: its window in the store. A start is any number, so no sum is made of it.
 ghost use Rattle.std.specs.Prelude.{◌≡◌, ◌+◌, ◌*◌, ltb};
 ghost use Rattle.tlp.specs.Rows.{first};
+ghost use Rattle.tlp.specs.Refusals.{checked};
 ghost use Rattle.reads_rules.specs.Windows.{place_bad, place_rows, shares_byte, holds_window};
 
 use crate::request::ReadRequest;
+use tlp::refusal::Refusal;
 use tlp::settings::Settings;
 
 // The most bytes that a store may have.
@@ -13,69 +15,57 @@ pub const STORE_LIMIT: u64 = 65536;
 fn window_size(q: ReadRequest) -> u64
     ensures { result ≡ 4 * q.access.length }
 {
-    let a = q.access;
-    4 * a.length as u64
+    4 * u64::from(q.access.length)
 }
 
 // Whether a place lies before the end of what starts at from and has size bytes.
 fn before_end(place: u64, from: u64, size: u64) -> bool
     ensures { result ≡ ltb place (from + size) }
 {
-    if place < from {
-        return true;
-    }
-    place - from < size
+    place < from || place - from < size
 }
 
 // Whether 4 x length is over MRRS.
 pub(crate) fn over_request_size(settings: Settings, q: ReadRequest) -> bool
     ensures { result ≡ ltb settings.mrrs (4 * q.access.length) }
 {
-    (settings.mrrs as u64) < window_size(q)
+    u64::from(settings.mrrs) < window_size(q)
 }
 
 // What 23 is given for, with a store of room bytes.
+#[tactic(auto, unfolding(crate::specs::Windows::place_bad))]
 pub(crate) fn place_bad(q: ReadRequest, room: u64) -> bool
     ensures { result ≡ place_bad q room }
 {
-    if STORE_LIMIT < room {
-        return true;
-    }
-    if q.start % 4 != 0 {
-        return true;
-    }
-    before_end(room, q.start, window_size(q))
+    STORE_LIMIT < room || q.start % 4 != 0 || before_end(room, q.start, window_size(q))
 }
 
-// The first of 22 and 23 that holds, with a store of room bytes; 0 where none does.
-pub fn place_number(settings: Settings, q: ReadRequest, room: u64) -> u32
-    ensures { result ≡ first (place_rows settings q room) }
+// The first of 22 and 23 that holds, with a store of room bytes.
+#[tactic(auto, unfolding(tlp::specs::Rows::first, tlp::specs::Refusals::refusal))]
+pub fn place_fault(settings: Settings, q: ReadRequest, room: u64) -> Result<(), Refusal>
+    ensures { result ≡ checked (first (place_rows settings q room)) }
 {
     if over_request_size(settings, q) {
-        return 22;
+        return Err(Refusal::OverMaxReadRequest);
     }
     if place_bad(q, room) {
-        return 23;
+        return Err(Refusal::BadWindow);
     }
-    0
+    Ok(())
 }
 
 // Whether the windows of two reads share a byte.
+#[tactic(auto, unfolding(crate::specs::Windows::shares_byte))]
 pub fn shares_byte(q: ReadRequest, r: ReadRequest) -> bool
     ensures { result ≡ shares_byte q r }
 {
-    if before_end(q.start, r.start, window_size(r)) {
-        return before_end(r.start, q.start, window_size(q));
-    }
-    false
+    before_end(q.start, r.start, window_size(r)) && before_end(r.start, q.start, window_size(q))
 }
 
 // Whether a store of room bytes is within its limit and holds the window.
+#[tactic(auto, unfolding(crate::specs::Windows::holds_window))]
 pub fn holds_window(q: ReadRequest, room: u64) -> bool
     ensures { result ≡ holds_window q room }
 {
-    if STORE_LIMIT < room {
-        return false;
-    }
-    !before_end(room, q.start, window_size(q))
+    room <= STORE_LIMIT && !before_end(room, q.start, window_size(q))
 }

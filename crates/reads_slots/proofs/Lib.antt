@@ -1,3 +1,4 @@
 pub mod RecordLaws
 mod Returns
 mod ScanLaws
+mod AnyOpenLaws

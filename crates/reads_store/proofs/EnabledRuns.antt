@@ -1,7 +1,7 @@
 -- Why the bytes from enabled_from up to enabled_to need no test.
 use Prim.Native.Nat.{ℕ, zero, suc, ◌+◌, ◌-◌, ◌*◌, ◌/◌, ◌%◌, ◌≤◌, ◌<◌}
 use mathlib.Core.Path.{◌≡◌, refl}
-use mathlib.Core.Bool.{Bool, true, false, false≢true}
+use mathlib.Core.Bool.{Bool, true, false}
 use native.Mathlib.Omega.{arith}
 use lib.Dec.{eqb, leb}
 use borrow.Author.Tests.{eqb-true, leb-true, lt-leb}
@@ -39,12 +39,6 @@ module _ (a : Access) (from to : ℕ) (f : from < 4 → a.first % 16 ≡ 15) (t 
   pub run-enabled : (k q w : ℕ) → from ≤ k → q ≡ to - k → w ≤ q → (i : ℕ) → i < w → enabled a (k + i) ≡ true
   run-enabled k q w h e u i l = within (k + i) (omega arith) (omega arith)
 
-module _ (a : Access) (k n : ℕ) where
-  -- where both are 1111, nothing is left out
-  pub all-1111 : (q : ℕ) → a.first % 16 ≡ 15 → a.last % 16 ≡ 15 → q ≡ 4 * a.length - k → leb n q ≡ true → (i : ℕ) → i < n → enabled a (k + i) ≡ true
-  all-1111 q f l e h = run-enabled a 0 (4 * a.length) (λ _. f) (omega arith, λ _. l) k q n (omega arith) e (leb-true n q h)
-
-  pub none-known : false ≡ true → (i : ℕ) → i < n → enabled a (k + i) ≡ true
-  none-known e i l = absurd (false≢true e)
-
-pub ruleset enabled-laws = (all-1111, none-known)
+-- where both are 1111, nothing is left out
+pub all-1111 : (a : Access) (k n q : ℕ) → a.first % 16 ≡ 15 → a.last % 16 ≡ 15 → q ≡ 4 * a.length - k → leb n q ≡ true → (i : ℕ) → i < n → enabled a (k + i) ≡ true
+all-1111 a k n q f l e h = run-enabled a 0 (4 * a.length) (λ _. f) (omega arith, λ _. l) k q n (omega arith) e (leb-true n q h)

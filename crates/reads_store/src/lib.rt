@@ -7,7 +7,6 @@ ghost use Rattle.byte_enables.specs.Enables.{enabled};
 ghost use Rattle.scans.specs.Merges.{merged};
 ghost use Rattle.reads_store.specs.Stores.{stored};
 
-use bits::choice::lesser;
 use byte_enables::{Access, enabled_at};
 use reads_rules::request::ReadRequest;
 
@@ -15,25 +14,18 @@ use reads_rules::request::ReadRequest;
 fn laid_byte(is_enabled: bool, sent: u8, kept: u8) -> u8
     ensures { result ≡ pick is_enabled sent kept }
 {
-    if is_enabled {
-        return sent;
-    }
-    kept
+    if is_enabled { sent } else { kept }
 }
 
 // Lays the enabled bytes of a payload, whose first byte is the read's byte k, over the part that is lent, with a test
-// for each byte; i counts them.
+// for each byte.
 fn store_tested(a: Access, k: u64, payload: &[u8], part: &mut [u8])
     requires { k + length payload.now < 2 ^ 64 }
     ensures { part.new ≡ merged (enabled a) k payload.now part.old }
 {
-    let mut i: usize = 0;
-    while i < payload.len() {
-        if part.len() <= i {
-            return;
-        }
+    let n = payload.len().min(part.len());
+    for i in 0..n {
         part[i] = laid_byte(enabled_at(a, k + i as u64), payload[i], part[i]);
-        i += 1;
     }
 }
 
@@ -42,33 +34,25 @@ fn store_tested(a: Access, k: u64, payload: &[u8], part: &mut [u8])
 fn enabled_from(a: Access) -> u64
     ensures { result < 4 → a.first % 16 ≡ 15 }
 {
-    if a.first % 16 == 0b1111 {
-        return 0;
-    }
-    4
+    if a.first % 16 == 0b1111 { 0 } else { 4 }
 }
 
 fn enabled_to(a: Access) -> u64
     ensures { (result ≤ 4 * a.length) × (4 * a.length - 4 < result → a.last % 16 ≡ 15) }
 {
-    let all = 4 * a.length as u64;
+    let all = 4 * u64::from(a.length);
     if a.last % 16 == 0b1111 {
-        return all;
+        all
+    } else {
+        all.saturating_sub(4)
     }
-    if all == 0 {
-        return 0;
-    }
-    all - 4
 }
 
 // How many bytes there are from byte k up to byte end; 0 where end is not beyond k.
 fn bytes_up_to(end: u64, k: u64) -> usize
     ensures { result ≡ end - k }
 {
-    if end <= k {
-        return 0;
-    }
-    (end - k) as usize
+    end.saturating_sub(k) as usize
 }
 
 // How many of the n bytes from byte k on are known to be enabled, without a test of each.
@@ -76,9 +60,10 @@ fn enabled_run(a: Access, k: u64, n: usize) -> usize
     ensures { (result ≤ n) × ((i : ℕ) → i < result → enabled a (k + i) ≡ true) }
 {
     if k < enabled_from(a) {
-        return 0;
+        0
+    } else {
+        bytes_up_to(enabled_to(a), k).min(n)
     }
-    lesser(bytes_up_to(enabled_to(a), k), n)
 }
 
 // What store_tested does, where the first run bytes are all enabled: one copy of these is many times faster than a
@@ -115,13 +100,7 @@ fn copy_front(n: usize, src: &[u8], dst: &mut [u8])
 fn all_enabled(a: Access, k: u64, n: usize) -> bool
     ensures { result ≡ true → (i : ℕ) → i < n → enabled a (k + i) ≡ true }
 {
-    if a.first % 16 != 0b1111 {
-        return false;
-    }
-    if a.last % 16 != 0b1111 {
-        return false;
-    }
-    n <= bytes_up_to(4 * a.length as u64, k)
+    a.first % 16 == 0b1111 && a.last % 16 == 0b1111 && n <= bytes_up_to(4 * u64::from(a.length), k)
 }
 
 // What store_tested does, by runs: first the h bytes before the run that is all enabled, then that run and what
@@ -130,7 +109,7 @@ fn store_runs(a: Access, k: u64, n: usize, payload: &[u8], part: &mut [u8])
     requires { (n ≤ length payload.now) × (n ≤ length part.old) × (k + length payload.now < 2 ^ 64) }
     ensures { part.new ≡ merged (enabled a) k payload.now part.old }
 {
-    let h = lesser(bytes_up_to(enabled_from(a), k), n);
+    let h = bytes_up_to(enabled_from(a), k).min(n);
     let run = enabled_run(a, k + h as u64, n - h);
     store_tested(a, k, &payload[..h], &mut part[..h]);
     store_run_and_rest(a, k + h as u64, run, &payload[h..], &mut part[h..]);
@@ -142,12 +121,12 @@ pub fn store_enabled(a: Access, p: u32, payload: &[u8], part: &mut [u8])
     ensures { part.new ≡ merged (enabled a) (4 * p) payload.now part.old }
 {
     let k = 4 * p as u64;
-    let n = lesser(payload.len(), part.len());
+    let n = payload.len().min(part.len());
     if all_enabled(a, k, n) {
         copy_front(n, payload, part);
-        return;
+    } else {
+        store_runs(a, k, n, payload, part);
     }
-    store_runs(a, k, n, payload, part);
 }
 
 // Writes the enabled bytes of a payload into the store: the part that starts at window start plus 4p is lent. A start
@@ -157,13 +136,10 @@ pub fn store_piece(q: ReadRequest, p: u32, payload: &[u8], store: &mut [u8])
 {
     let skipped = 4 * p as u64;
     let room = store.len() as u64;
-    if room < q.start {
-        return;
-    }
-    if room - q.start < skipped {
+    if room < q.start || room - q.start < skipped {
         return;
     }
     let from = (q.start + skipped) as usize;
-    let to = from + lesser(payload.len(), store.len() - from);
+    let to = from + payload.len().min(store.len() - from);
     store_enabled(q.access, p, payload, &mut store[from..to]);
 }

@@ -1,14 +1,16 @@
 -- The turns of a loop that merges ds into xs by an index i, in the words of the loop.
-use Prim.Native.Nat.{ℕ, zero, suc, ◌+◌, ◌<◌, ◌≤◌}
+use Prim.Native.Nat.{ℕ, zero, suc, min, ◌+◌, ◌<◌, ◌≤◌}
 use native.Mathlib.Nat.{add-zero}
 use native.Mathlib.Numerals.{add-one}
 use native.Mathlib.Omega.{arith}
 use mathlib.Core.Path.{◌≡◌, refl, ap, ◌∙◌}
-use mathlib.Core.Bool.{Bool}
+use mathlib.Core.Bool.{Bool, true, false}
 use mathlib.Core.Logic.{◌⊎◌, inl, inr}
 use mathlib.Core.List.{List, [], ◌∷◌, ◌++◌, append-nil}
+use lib.Dec.{leb}
 use lib.ListN.{length, take, drop, get_or, set, drop_of_length-le}
 use lib.Seq.{take_all}
+use borrow.Author.Tests.{leb-true, leb-false}
 use Rattle.bits.specs.Choice.{pick}
 use Rattle.scans.specs.Merges.{merged}
 use Rattle.scans.proofs.MergeLaws.{merged-nil, merged-split}
@@ -46,12 +48,16 @@ module _ (f : ℕ → Bool) where
   cut : (k n : ℕ) (ds xs : List ℕ) → length xs ≤ n → merged f k (take n ds) xs ≡ merged f k ds xs
   cut k n ds xs h = rw (take_all n xs h, drop_of_length-le xs {i = n} h, merged-nil, append-nil) at (merged-split f k n ds xs)
 
-  -- the loop has ended: all of one list is used
-  pub merge-all : (k : ℕ) (ds xs part : List ℕ) (i : ℕ) → part ≡ merged f k (take i ds) xs → length ds ≤ i → part ≡ merged f k ds xs
-  merge-all k ds xs part i inv h = inv ∙ ap (λ (l : List ℕ). merged f k l xs) (take_all i ds h)
-
   pub merge-full : (k : ℕ) (ds xs part : List ℕ) (i : ℕ) → part ≡ merged f k (take i ds) xs → length part ≡ length xs → length part ≤ i → part ≡ merged f k ds xs
   merge-full k ds xs part i inv z h = inv ∙ cut k i ds xs (omega arith)
+
+  -- the loop has ended: all of one list is used
+  pub merge-ends : (k : ℕ) (ds xs part : List ℕ) (i n : ℕ) → part ≡ merged f k (take i ds) xs → length part ≡ length xs → n ≡ min (length ds) (length xs) → n ≤ i → part ≡ merged f k ds xs
+  merge-ends k ds xs part i n inv z e h = go (leb (length ds) (length xs)) refl
+    where
+      go : (b : Bool) → leb (length ds) (length xs) ≡ b → part ≡ merged f k ds xs
+      go true x = let y = leb-true (length ds) (length xs) x in inv ∙ ap (λ (l : List ℕ). merged f k l xs) (take_all i ds (omega arith))
+      go false x = let y = leb-false (length ds) (length xs) x in merge-full k ds xs part i inv z (omega arith)
 
   -- a part as long as either list takes all that is laid
   pub merged-part : (k n : ℕ) (ds xs : List ℕ) → (length ds ≤ n) ⊎ (length xs ≤ n) → merged f k ds (take n xs) ++ drop n xs ≡ merged f k ds xs
@@ -59,4 +65,4 @@ module _ (f : ℕ → Bool) where
   merged-part k n ds xs (inl h) = rw (take_all n ds h, drop_of_length-le ds {i = n} h) at (merged-split f k n ds xs)
   merged-part k n ds xs (inr h) = rw (take_all n xs h, drop_of_length-le xs {i = n} h) (append-nil (merged f k ds xs))
 
-pub ruleset merge-steps = (merged-none, merge-more, merge-all, merge-full)
+pub ruleset merge-steps = (merged-none, merge-more, merge-ends)

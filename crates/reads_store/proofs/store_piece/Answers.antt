@@ -5,8 +5,5 @@ use Rattle.reads_store.proofs.store_piece.Goals as goal
 pub returns-then-room-q : goal.returns-then-room-q
 returns-then-room-q c = search (stored-laws, rules)
 
-pub returns-then-room-q-2 : goal.returns-then-room-q-2
-returns-then-room-q-2 c = search (stored-laws, rules)
-
 pub returns : goal.returns
 returns c = search (stored-laws, rules)

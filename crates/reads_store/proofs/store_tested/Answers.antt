@@ -6,13 +6,10 @@ use borrow.Author.Rules.{rules}
 use Rattle.reads_store.proofs.store_tested.Goals as goal
 
 pub loop-i-init : goal.loop-i-init
-loop-i-init c = (omega arith, refl, search merge-steps)
-
-pub returns-then-part-i : goal.returns-then-part-i
-returns-then-part-i c = search merge-steps
+loop-i-init c = (refl, search merge-steps)
 
 pub loop-i-preserved : goal.loop-i-preserved
-loop-i-preserved c = (omega arith, simp length-set (omega arith), search (merge-steps, rules))
+loop-i-preserved c = (simp length-set (omega arith), search (merge-steps, rules))
 
 pub returns : goal.returns
-returns c = search merge-steps
+returns c = search (merge-steps, rules)

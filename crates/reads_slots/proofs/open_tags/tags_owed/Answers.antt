@@ -1,40 +1,15 @@
-use native.Mathlib.Omega.{arith}
 use borrow.Author.Rules.{rules}
 use Rattle.reads_slots.proofs.ScanLaws.{scan-laws}
 use Rattle.reads_slots.proofs.open_tags.tags_owed.Goals as goal
 
 pub loop-j-init : goal.loop-j-init
-loop-j-init c = (omega arith, search scan-laws)
-
-pub offset_bounds-opened-j : goal.offset_bounds-opened-j
-offset_bounds-opened-j c = search (scan-laws, rules)
-
-pub bounds-opened-j : goal.bounds-opened-j
-bounds-opened-j c = search (scan-laws, rules)
-
-pub overflow_mul-j : goal.overflow_mul-j
-overflow_mul-j c = search (scan-laws, rules)
-
-pub word_below-requires : goal.word_below-requires
-word_below-requires c = search (scan-laws, rules)
-
-pub overflow_mul-j-in-loop-j : goal.overflow_mul-j-in-loop-j
-overflow_mul-j-in-loop-j c = search (scan-laws, rules)
-
-pub word_owed-sum-requires : goal.word_owed-sum-requires
-word_owed-sum-requires c = search (scan-laws, rules)
+loop-j-init c = search scan-laws
 
 pub overflow_add-sum : goal.overflow_add-sum
 overflow_add-sum c = search (scan-laws, rules)
 
-pub overflow_add-j : goal.overflow_add-j
-overflow_add-j c = search (scan-laws, rules)
-
-pub loop-j-smaller : goal.loop-j-smaller
-loop-j-smaller c = search (scan-laws, rules)
-
 pub loop-j-preserved : goal.loop-j-preserved
-loop-j-preserved c = (omega arith, search (scan-laws, rules))
+loop-j-preserved c = search (scan-laws, rules)
 
 pub returns : goal.returns
 returns c = search (scan-laws, rules)

@@ -1,12 +1,8 @@
-use Prim.Native.Nat.{◌-◌, ◌*◌, ◌/◌, ◌≤◌}
+use Prim.Native.Nat.{◌*◌}
 use mathlib.Core.Path.{◌≡◌}
 use Rattle.scans.specs.Belows.{sum_below}
-use Rattle.reads_words.specs.Capacity.{capacity}
 use Rattle.reads_slots.specs.Records.{owed_at}
 use Rattle.reads_slots.proofs.open_tags.tags_owed.Given as goal
 
 abbrev pub invariant-loop-j : goal.invariant-loop-j
-invariant-loop-j l = (l.j ≤ capacity / 64) × (l.sum ≡ sum_below (64 * l.j) (owed_at l.limit l.opened l.words))
-
-abbrev pub decreases-loop-j : goal.decreases-loop-j
-decreases-loop-j l = capacity / 64 - l.j
+invariant-loop-j l = l.sum ≡ sum_below (64 * l.j) (owed_at l.limit l.opened l.words)
