@@ -1,6 +1,7 @@
 -- What the calls of the benchmark for C are lent and answer, in the words of the table's calls. Nothing of the
 -- product is promised by it.
 use Rattle.std.specs.Prelude.{ℕ, ◌%◌, ◌^◌, List, get_or}
+use Rattle.tlp.specs.Refusals.{number}
 use Rattle.reads_rules.specs.declared.request.ReadRequest.{ReadRequest}
 use Rattle.reads_rules.specs.declared.origin.Origin.{Origin}
 use Rattle.reads_words.specs.Words.{read_of}
@@ -30,5 +31,5 @@ done_number More = 255
 done_number Done = 0
 done_number (Failed status) = 255
 done_number Poisoned = 255
-done_number (Unread r) = r.number
-done_number (Refused n) = n
+done_number (Unread r) = number r
+done_number (Refused r) = number r

@@ -5,12 +5,12 @@
 
 ghost use Rattle.std.specs.Prelude.{◌≡◌, length};
 ghost use Rattle.reads.specs.Answers.{open_number, withdraw_number};
+ghost use Rattle.tlp.specs.Refusals.{number_in};
 ghost use Rattle.reads.specs.OpenCall.{open_call, open_out};
 ghost use Rattle.reads.specs.TakeCall.{take_call, take_store};
 ghost use Rattle.reads.specs.OtherCalls.{withdraw_call};
 ghost use Rattle.bench_lent.specs.Lent.{origin_in, table_in, request_in, done_number};
 
-use reads::answer::{OpenAnswer, WithdrawAnswer};
 use reads::open::open_lent;
 use reads::table::withdraw_lent;
 use reads::take::take_lent;
@@ -18,6 +18,7 @@ use reads_answers::TakeAnswer;
 use reads_rules::origin::Origin;
 use reads_words::tag_set::TagSet;
 use reads_words::words::{Words, read_of};
+use tlp::refusal::Refusal;
 use tlp::settings::Settings;
 
 // What a table is made from.
@@ -34,13 +35,13 @@ fn origin_in(from: &[u32; 4]) -> Origin
     }
 }
 
-// The number of open's answer; 0 where it is accepted.
-fn open_number(a: OpenAnswer) -> u32
-    ensures { result ≡ open_number a }
+// The number of an answer; 0 for accepted.
+fn number_in<T: Copy>(answer: Result<T, Refusal>) -> u32
+    ensures { result ≡ number_in answer }
 {
-    match a {
-        OpenAnswer::Opened(_) => 0,
-        OpenAnswer::Refused(n) => n,
+    match answer {
+        Ok(_) => 0,
+        Err(refusal) => refusal.number(),
     }
 }
 
@@ -49,22 +50,9 @@ fn done_number(a: TakeAnswer) -> u32
     ensures { result ≡ done_number a }
 {
     match a {
-        TakeAnswer::More => 255,
         TakeAnswer::Done => 0,
-        TakeAnswer::Failed(_) => 255,
-        TakeAnswer::Poisoned => 255,
-        TakeAnswer::Unread(r) => r.number,
-        TakeAnswer::Refused(n) => n,
-    }
-}
-
-// The number of withdraw's answer; 0 where it is accepted.
-fn withdraw_number(a: WithdrawAnswer) -> u32
-    ensures { result ≡ withdraw_number a }
-{
-    match a {
-        WithdrawAnswer::Withdrawn => 0,
-        WithdrawAnswer::Refused(n) => n,
+        TakeAnswer::More | TakeAnswer::Failed(_) | TakeAnswer::Poisoned => 255,
+        TakeAnswer::Unread(refusal) | TakeAnswer::Refused(refusal) => refusal.number(),
     }
 }
 
@@ -90,8 +78,7 @@ pub extern "C" fn bench_open(
     let r = read_of(request[0], request[1], request[2], request[3]);
     let q = r.request;
     let o = origin_in(from);
-    let answer = open_lent(o, opened, words, q, tag, store, out);
-    open_number(answer)
+    number_in(open_lent(o, opened, words, q, tag, store, out))
 }
 
 // Takes a packet, likewise.
@@ -112,8 +99,7 @@ pub extern "C" fn bench_take(
         bytes.now store.old }
 {
     let o = origin_in(from);
-    let answer = take_lent(o, opened, words, bytes, store);
-    done_number(answer)
+    done_number(take_lent(o, opened, words, bytes, store))
 }
 
 // Withdraws a read, likewise.
@@ -130,6 +116,5 @@ pub extern "C" fn bench_withdraw(
         ≡ (withdraw_call (table_in from.now opened.old words.old) tag).table }
 {
     let o = origin_in(from);
-    let answer = withdraw_lent(o, opened, words, tag);
-    withdraw_number(answer)
+    number_in(withdraw_lent(o, opened, words, tag))
 }

@@ -1,6 +1,5 @@
 // Bytes, numbers of several bytes and counts of bits, for any input.
 #![tactic(auto)]
 
-pub mod choice;
 pub mod count;
 pub mod word;

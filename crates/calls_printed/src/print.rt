@@ -1,7 +1,6 @@
 // What a line prints: a text in a buffer, written whole with its newline. These functions answer nothing.
 use crate::LINE_MOST;
 use byte_enables::Access;
-use reads::answer::{MakeAnswer, OpenAnswer, OwedAnswer, WithdrawAnswer};
 use reads_answers::TakeAnswer;
 use reads_rules::read::Read;
 use reads_rules::request::ReadRequest;
@@ -9,6 +8,7 @@ use text::decimal::put_decimal;
 use text::hex::{put_hex, put_hex_fixed, put_hex_plain};
 use text::output::put_text;
 use text::words::part;
+use tlp::refusal::Refusal;
 
 // Room for every line.
 type Text = [u8; LINE_MOST];
@@ -49,23 +49,21 @@ pub fn print_bad() {
     print_words(b"bad");
 }
 
-pub(crate) fn print_new(a: MakeAnswer) {
-    match a {
-        MakeAnswer::Made => print_words(b"new code=0"),
-        MakeAnswer::Refused(n) => print_number(b"new code=", n as u64),
+// 0 for accepted.
+fn number_in<T: Copy>(answer: Result<T, Refusal>) -> u64 {
+    match answer {
+        Ok(_) => 0,
+        Err(refusal) => refusal.number() as u64,
     }
 }
 
-fn open_code(a: OpenAnswer) -> u32 {
-    match a {
-        OpenAnswer::Opened(_) => 0,
-        OpenAnswer::Refused(n) => n,
-    }
+pub(crate) fn print_new(answer: Result<(), Refusal>) {
+    print_number(b"new code=", number_in(answer));
 }
 
-pub(crate) fn print_open(a: OpenAnswer, out: &[u8]) {
+pub(crate) fn print_open(answer: Result<usize, Refusal>, out: &[u8]) {
     let mut text = [0u8; LINE_MOST];
-    let at = put_number(b"open code=", open_code(a) as u64, 0, &mut text);
+    let at = put_number(b"open code=", number_in(answer), 0, &mut text);
     let size = put_bytes(b" out=", out, at, &mut text);
     write_line(&mut text, size);
 }
@@ -76,23 +74,21 @@ pub(crate) fn print_take(a: TakeAnswer) {
         TakeAnswer::Done => print_words(b"take done"),
         TakeAnswer::Failed(status) => print_number(b"take failed status=", status as u64),
         TakeAnswer::Poisoned => print_words(b"take poisoned"),
-        TakeAnswer::Unread(r) => print_number(b"take code=", r.number as u64),
-        TakeAnswer::Refused(n) => print_number(b"take code=", n as u64),
+        TakeAnswer::Unread(refusal) | TakeAnswer::Refused(refusal) => {
+            print_number(b"take code=", refusal.number() as u64)
+        }
     }
 }
 
-pub(crate) fn print_withdraw(a: WithdrawAnswer) {
-    match a {
-        WithdrawAnswer::Withdrawn => print_words(b"withdraw code=0"),
-        WithdrawAnswer::Refused(n) => print_number(b"withdraw code=", n as u64),
-    }
+pub(crate) fn print_withdraw(answer: Result<(), Refusal>) {
+    print_number(b"withdraw code=", number_in(answer));
 }
 
 // What `owed` answered.
-pub fn print_owed(a: OwedAnswer) {
-    match a {
-        OwedAnswer::Owed(n) => print_number(b"owed dw=", n),
-        OwedAnswer::Refused(n) => print_number(b"owed code=", n as u64),
+pub fn print_owed(answer: Result<u64, Refusal>) {
+    match answer {
+        Ok(n) => print_number(b"owed dw=", n),
+        Err(refusal) => print_number(b"owed code=", refusal.number() as u64),
     }
 }
 

@@ -4,66 +4,54 @@
 #![tactic(auto)]
 
 use byte_enables::Access;
-use reads::answer::{MakeAnswer, OpenAnswer, OwedAnswer, WithdrawAnswer};
 use reads::table::{Making, Table};
 use reads_answers::TakeAnswer;
 use reads_rules::request::ReadRequest;
 use text::words::part;
+use tlp::refusal::Refusal;
 use tlp::settings::Settings;
 
 // ---- what is printed: the console's words (docs/CALLS.md)
 
-fn print_line(words: &[u8]) {
-    io::write_all(1, words);
-    io::write_all(1, b"\n");
+fn print_new(rt: &impl Print, answer: Result<(), Refusal>) {
+    let _ = println!(rt; "new code={}", number_in(answer));
 }
 
-fn print_number(key: &[u8], n: u64) {
-    io::write_all(1, key);
-    io::print_decimal(1, n);
-    io::write_all(1, b"\n");
+fn print_open(rt: &impl Print, answer: Result<usize, Refusal>) {
+    let _ = match answer {
+        Ok(size) => println!(rt; "open size={size}"),
+        Err(refusal) => println!(rt; "open code={}", refusal.number()),
+    };
 }
 
-fn print_byte(key: &[u8], byte: u8) {
-    print_number(key, byte as u64);
+fn print_take(rt: &impl Print, answer: TakeAnswer) {
+    let _ = match answer {
+        TakeAnswer::More => println!(rt; "take more"),
+        TakeAnswer::Done => println!(rt; "take done"),
+        TakeAnswer::Failed(status) => println!(rt; "take failed status={status}"),
+        TakeAnswer::Poisoned => println!(rt; "take poisoned"),
+        TakeAnswer::Unread(refusal) | TakeAnswer::Refused(refusal) => {
+            println!(rt; "take code={}", refusal.number())
+        }
+    };
 }
 
-fn print_new(a: MakeAnswer) {
-    match a {
-        MakeAnswer::Made => print_line(b"new code=0"),
-        MakeAnswer::Refused(n) => print_number(b"new code=", n as u64),
-    }
+fn print_withdraw(rt: &impl Print, answer: Result<(), Refusal>) {
+    let _ = println!(rt; "withdraw code={}", number_in(answer));
 }
 
-fn print_open(a: OpenAnswer) {
-    match a {
-        OpenAnswer::Opened(size) => print_number(b"open size=", size as u64),
-        OpenAnswer::Refused(n) => print_number(b"open code=", n as u64),
-    }
+fn print_owed(rt: &impl Print, answer: Result<u64, Refusal>) {
+    let _ = match answer {
+        Ok(n) => println!(rt; "owed dw={n}"),
+        Err(refusal) => println!(rt; "owed code={}", refusal.number()),
+    };
 }
 
-fn print_take(a: TakeAnswer) {
-    match a {
-        TakeAnswer::More => print_line(b"take more"),
-        TakeAnswer::Done => print_line(b"take done"),
-        TakeAnswer::Failed(status) => print_number(b"take failed status=", status as u64),
-        TakeAnswer::Poisoned => print_line(b"take poisoned"),
-        TakeAnswer::Unread(r) => print_number(b"take code=", r.number as u64),
-        TakeAnswer::Refused(n) => print_number(b"take code=", n as u64),
-    }
-}
-
-fn print_withdraw(a: WithdrawAnswer) {
-    match a {
-        WithdrawAnswer::Withdrawn => print_line(b"withdraw code=0"),
-        WithdrawAnswer::Refused(n) => print_number(b"withdraw code=", n as u64),
-    }
-}
-
-fn print_owed(a: OwedAnswer) {
-    match a {
-        OwedAnswer::Owed(n) => print_number(b"owed dw=", n),
-        OwedAnswer::Refused(n) => print_number(b"owed code=", n as u64),
+// 0 for accepted.
+fn number_in(answer: Result<(), Refusal>) -> u32 {
+    match answer {
+        Ok(()) => 0,
+        Err(refusal) => refusal.number(),
     }
 }
 
@@ -79,7 +67,7 @@ fn new_table() -> Making {
 }
 
 // Opens the read on tag 5, its window at the store's start.
-fn open(t: Table, store: &[u8]) -> Table {
+fn open(rt: &impl Print, t: Table, store: &[u8]) -> Table {
     let request = ReadRequest {
         access: Access {
             address: 0x10020,
@@ -93,10 +81,9 @@ fn open(t: Table, store: &[u8]) -> Table {
     };
     let mut header = [0u8; 12];
     let opening = t.open(request, 5, store, &mut header);
-    print_open(opening.answer);
-    let next = opening.table;
-    print_owed(next.owed());
-    next
+    print_open(rt, opening.answer);
+    print_owed(rt, opening.table.owed());
+    opening.table
 }
 
 // A completion of the read, up to 128 bytes of payload, each of them the same byte. Its completer has the ID 0200.
@@ -118,6 +105,7 @@ fn completion(length: u8, byte_count: u32, lower_address: u8, byte: u8) -> [u8; 
 }
 
 fn take(
+    rt: &impl Print,
     t: Table,
     length: u8,
     byte_count: u32,
@@ -127,46 +115,44 @@ fn take(
 ) -> Table {
     let packet = completion(length, byte_count, lower_address, byte);
     let taking = t.take(part(&packet, 0, 12 + 4 * length as usize), store);
-    print_take(taking.answer);
-    let next = taking.table;
-    print_owed(next.owed());
-    next
+    print_take(rt, taking.answer);
+    print_owed(rt, taking.table.owed());
+    taking.table
 }
 
-fn withdraw(t: Table) -> Table {
+fn withdraw(rt: &impl Print, t: Table) -> Table {
     let withdrawal = t.withdraw(5);
-    print_withdraw(withdrawal.answer);
-    let next = withdrawal.table;
-    print_owed(next.owed());
-    next
+    print_withdraw(rt, withdrawal.answer);
+    print_owed(rt, withdrawal.table.owed());
+    withdrawal.table
 }
 
 // ---- the two reads
 
 // P4: a first piece of 32 bytes is 33 at RCB 128.
 // P3: the pieces have Byte Count 256, 160, 32 and Lower Address 32, 0, 0.
-fn take_whole(t: Table, store: &mut [u8]) -> Table {
-    let mut next = take(t, 8, 256, 32, 9, store);
-    next = take(next, 24, 256, 32, 1, store);
-    next = take(next, 32, 160, 0, 2, store);
-    take(next, 8, 32, 0, 3, store)
+fn take_whole(rt: &impl Print, t: Table, store: &mut [u8]) -> Table {
+    let mut next = take(rt, t, 8, 256, 32, 9, store);
+    next = take(rt, next, 24, 256, 32, 1, store);
+    next = take(rt, next, 32, 160, 0, 2, store);
+    take(rt, next, 8, 32, 0, 3, store)
 }
 
 // The first byte of each piece.
-fn print_store(store: &[u8; 256]) {
-    print_byte(b"byte 0: ", store[0]);
-    print_byte(b"byte 96: ", store[96]);
-    print_byte(b"byte 224: ", store[224]);
+fn print_store(rt: &impl Print, store: &[u8; 256]) {
+    let _ = println!(rt; "byte 0: {}", store[0]);
+    let _ = println!(rt; "byte 96: {}", store[96]);
+    let _ = println!(rt; "byte 224: {}", store[224]);
 }
 
-fn main() {
+fn main(rt: HostRuntime) {
     let mut store = [0u8; 256];
     let made = new_table();
-    print_new(made.answer);
-    let mut t = open(made.table, &store);
-    t = take_whole(t, &mut store);
-    print_store(&store);
-    t = open(t, &store);
-    t = withdraw(t);
-    withdraw(t);
+    print_new(&rt, made.answer);
+    let mut t = open(&rt, made.table, &store);
+    t = take_whole(&rt, t, &mut store);
+    print_store(&rt, &store);
+    t = open(&rt, t, &store);
+    t = withdraw(&rt, t);
+    withdraw(&rt, t);
 }

@@ -16,7 +16,6 @@ use text::hex::{hex_bytes, put_hex};
 use text::lines::line_end;
 use text::words::{part, value_at};
 use tlp::settings::Settings;
-use tlp_read::ReadAnswer;
 use tlp_record::places::RECORD_SIZE;
 
 // The number of so many hexadecimal digits after a field; none after a field that is none.
@@ -111,7 +110,7 @@ fn run_read(line: &[u8]) {
     );
     print(b"code=");
     print_number(number as u64);
-    if let ReadAnswer::Accepted(p) = tlp_read::read(settings, packet) {
+    if let Ok(p) = tlp_read::read(settings, packet) {
         print(b" record=");
         print_bytes(&record);
         print(b" payload=");
