@@ -27,7 +27,7 @@ MAKERS = {
 }
 FUNCTION = r'(?m)^\s*pub (?:extern "C" )?fn (\w+)'
 DEFINED = r"(?m)^\s*(?:(?:abbrev |unfoldable )?pub (?:record |data |ruleset )?|(?=[\w-]+ :))([\w-]+)"
-TYPED = r"(?m)^\s*(?:pub (?:struct|enum|const) (\w+)|([A-Z]\w*)(?:,|\(.*\),| \{.*)$)"
+TYPED = r"(?m)^\s*(?:pub (?:struct|enum|const) (\w+)|([A-Z]\w*)(?: = \d+)?(?:,|\(.*\),| \{.*)$)"
 
 
 @functools.lru_cache(None)
