@@ -6,7 +6,8 @@ record.txt, the definitions to believe, the lines of each crate, the must-fail e
     documents.py --check    fail, with a line for each fault, where a part is not what it would be filled with, a document is larger than
                             it may be, a line is too wide, a name stands for nothing in the tree, a public function has no row in
                             docs/TESTING.md, README shows another answer than the second implementation gives, or a theorem that a
-                            document or the header names is not stated and proved (theorems.py)
+                            document or the header names is not stated and proved (theorems.py), or the refusals of crate
+                            tlp are not those of numbers.txt
 """
 import glob
 import os
@@ -354,8 +355,16 @@ def wrong_examples(name):
     return [] if right else ["%s: the second implementation gives other answers than it shows" % name]
 
 
+def refusals():
+    """The cases of the library's enum of refusals: each number under its name for C, in camel case."""
+    names = [(number, "".join(w if w[0].isdigit() else w.capitalize() for w in name.split("_"))) for number, name, _ in listed_numbers()]
+    return "pub enum Refusal {\n%s}\n" % "".join("    %s = %s,\n" % (name, number) for number, name in names)
+
+
 def faults():
     found = []
+    if refusals() not in text_of("crates/tlp/src/refusal.rt"):
+        found.append("crates/tlp/src/refusal.rt: its refusals are not those of numbers.txt")
     for name in documents() + [HEADER]:
         if filled(text_of(name)) != text_of(name):
             found.append("%s: a made part is stale: run host/tools/documents.py --write" % name)
