@@ -15,9 +15,9 @@ use tlp::packet_type::{Family, data_follows, is_wide};
 use tlp::size::{digest_at, length_at};
 use tlp_read::fields::{
     address32_at, all_attributes_at, byte_count_field_at, byte_count_modified_at, code_at,
-    completer_at, completion_tag_at, extended_register_at, first_enables_at, last_enables_at,
-    low_attributes_at, lower_address_field_at, poisoned_at, register_at, requester_at, route_id_at,
-    routing_at, status_at, tag_at, traffic_class_at, whole_body_at,
+    completer_at, completion_tag_at, digest_word, extended_register_at, first_enables_at,
+    last_enables_at, low_attributes_at, lower_address_field_at, poisoned_at, register_at,
+    requester_at, route_id_at, routing_at, status_at, tag_at, traffic_class_at, whole_body_at,
 };
 use tlp_record::places::{
     BYTE_COUNT, DIGEST, EXTENDED_REGISTER, KIND, LENGTH, MESSAGE_BYTES, RECORD_SIZE, ROUTE_VALUE,
@@ -156,14 +156,13 @@ fn lay_address(packet: &[u8], record: &mut [u8; RECORD_SIZE])
     }
 }
 
-fn put_memory(digest: u32, packet: &[u8], record: &mut [u8; RECORD_SIZE])
-    requires digest_read { digest ≡ digest_word packet.now }
+fn put_memory(packet: &[u8], record: &mut [u8; RECORD_SIZE])
     requires memory { family_at packet.now ≡ Family.Memory }
     requires header_there { HeaderThere packet.now }
     ensures { «record».new ≡ record_laid packet.now «record».old }
 {
     let sizes = Sizes {
-        digest,
+        digest: digest_word(packet),
         length: length_at(packet),
     };
     let front = Front {
@@ -180,13 +179,12 @@ fn put_memory(digest: u32, packet: &[u8], record: &mut [u8; RECORD_SIZE])
     lay(EXTENDED_REGISTER, [0; 8], record);
 }
 
-fn put_io(digest: u32, packet: &[u8], record: &mut [u8; RECORD_SIZE])
-    requires digest_read { digest ≡ digest_word packet.now }
+fn put_io(packet: &[u8], record: &mut [u8; RECORD_SIZE])
     requires io { family_at packet.now ≡ Family.Io }
     ensures { «record».new ≡ record_laid packet.now «record».old }
 {
     let sizes = Sizes {
-        digest,
+        digest: digest_word(packet),
         length: length_at(packet),
     };
     let front = Front {
@@ -223,13 +221,12 @@ fn lay_registers(packet: &[u8], record: &mut [u8; RECORD_SIZE])
     );
 }
 
-fn put_config(digest: u32, packet: &[u8], record: &mut [u8; RECORD_SIZE])
-    requires digest_read { digest ≡ digest_word packet.now }
+fn put_config(packet: &[u8], record: &mut [u8; RECORD_SIZE])
     requires config { family_at packet.now ≡ Family.Config }
     ensures { «record».new ≡ record_laid packet.now «record».old }
 {
     let sizes = Sizes {
-        digest,
+        digest: digest_word(packet),
         length: length_at(packet),
     };
     let front = Front {
@@ -295,14 +292,13 @@ fn lay_counted(sizes: Sizes, count: u32, id: u16, record: &mut [u8; RECORD_SIZE]
     lay_count(count, id, 0, 0, record);
 }
 
-fn put_message(digest: u32, packet: &[u8], record: &mut [u8; RECORD_SIZE])
-    requires digest_read { digest ≡ digest_word packet.now }
+fn put_message(packet: &[u8], record: &mut [u8; RECORD_SIZE])
     requires message { family_at packet.now ≡ Family.Message }
     requires in_bounds { 16 ≤ length packet.now }
     ensures { «record».new ≡ record_laid packet.now «record».old }
 {
     let sizes = Sizes {
-        digest,
+        digest: digest_word(packet),
         length: length_given(packet),
     };
     let front = Front {
@@ -332,13 +328,12 @@ fn lay_status(packet: &[u8], record: &mut [u8; RECORD_SIZE])
     );
 }
 
-fn put_completion(digest: u32, packet: &[u8], record: &mut [u8; RECORD_SIZE])
-    requires digest_read { digest ≡ digest_word packet.now }
+fn put_completion(packet: &[u8], record: &mut [u8; RECORD_SIZE])
     requires completion { family_at packet.now ≡ Family.Completion }
     ensures { «record».new ≡ record_laid packet.now «record».old }
 {
     let sizes = Sizes {
-        digest,
+        digest: digest_word(packet),
         length: length_given(packet),
     };
     let front = Front {
@@ -355,20 +350,18 @@ fn put_completion(digest: u32, packet: &[u8], record: &mut [u8; RECORD_SIZE])
     lay_status(packet, record);
 }
 
-// The digest is read before anything is laid, and so only once.
-pub(crate) fn put_record(f: Family, digest: u32, packet: &[u8], record: &mut [u8; RECORD_SIZE])
-    requires digest_read { digest ≡ digest_word packet.now }
+pub(crate) fn put_record(f: Family, packet: &[u8], record: &mut [u8; RECORD_SIZE])
     requires own_family { f ≡ family_at packet.now }
     requires listed { is_unlisted f ≡ false }
     requires header_there { HeaderThere packet.now }
     ensures { «record».new ≡ record_laid packet.now «record».old }
 {
     match f {
-        Family::Memory => put_memory(digest, packet, record),
-        Family::Io => put_io(digest, packet, record),
-        Family::Config => put_config(digest, packet, record),
-        Family::Message => put_message(digest, packet, record),
-        Family::Completion => put_completion(digest, packet, record),
+        Family::Memory => put_memory(packet, record),
+        Family::Io => put_io(packet, record),
+        Family::Config => put_config(packet, record),
+        Family::Message => put_message(packet, record),
+        Family::Completion => put_completion(packet, record),
         Family::Unlisted => {}
     }
 }

@@ -12,7 +12,6 @@ use tlp::packet_type::family_by_type;
 use tlp::refusal::Refusal;
 use tlp::settings::Settings;
 use tlp_read::check;
-use tlp_read::fields::digest_word;
 use tlp_record::places::RECORD_SIZE;
 
 // The packet's record over the front of what is lent for it, or the first refusal that is given, with the record as it
@@ -26,8 +25,6 @@ pub fn read_record(settings: Settings, packet: &[u8], record: &mut [u8]) -> Resu
     let Some(front) = record.first_chunk_mut::<RECORD_SIZE>() else {
         return Err(Refusal::OutputTooShort);
     };
-    let digest = digest_word(packet);
-    let f = family_by_type(byte_at(packet, 0));
-    lay::put_record(f, digest, packet, front);
+    lay::put_record(family_by_type(byte_at(packet, 0)), packet, front);
     Ok(())
 }
