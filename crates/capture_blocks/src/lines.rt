@@ -26,12 +26,7 @@ struct LineDone {
     refused: usize,
 }
 
-fn print_line(
-    answer: Result<Packet, Refusal>,
-    end: usize,
-    at: usize,
-    out: &mut [u8],
-) -> LineDone
+fn print_line(answer: Result<Packet, Refusal>, end: usize, at: usize, out: &mut [u8]) -> LineDone
     ensures answer { result ≡ printed_line answer end at out.old }
     ensures output { out.new ≡ laid at (output_line answer) out.old }
 {
@@ -42,7 +37,8 @@ fn print_line(
     }
 }
 
-// The line at a place, printed from index at on, where it is complete.
+// The line at a place, printed from index at on, where it is complete. The parameters stay apart: in a struct, every
+// clause would reach space and out through two lendings.
 fn line_at(
     settings: Settings,
     bytes: &[u8],

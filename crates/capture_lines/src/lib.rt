@@ -10,7 +10,8 @@ use text::lines::line_end;
 // The most bytes of a line, without its newline.
 pub const TEXT_MOST: usize = 8266;
 
-// A line: end is the index of the next line, or the end of the bytes.
+// A line: end is the index of the next line, or the end of the bytes. It stays an enum of three kinds: end means
+// something else in the last, and who reads a line asks for its kind first.
 #[derive(Clone, Copy)]
 pub enum NextLine {
     Ended { end: usize },

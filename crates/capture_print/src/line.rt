@@ -1,4 +1,5 @@
-// A line that is being made, in its own room: it is printed whole or not at all.
+// A line that is being made, in its own room: it is printed whole or not at all. Not by Display, since what fmt writes
+// is in no contract.
 ghost use Rattle.std.specs.Prelude.{◌≡◌, ℕ, ◌+◌, ◌≤◌, List, [], ◌++◌, length, take};
 ghost use Rattle.text.specs.Laid.{laid, after};
 ghost use Rattle.text.specs.Decimal.{decimal_text};

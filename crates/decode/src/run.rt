@@ -13,7 +13,7 @@ pub(crate) struct Run {
     // The lines so far, and the refused ones among them.
     pub lines: u64,
     pub refused: u64,
-    // Whether to read on.
+    // Whether to read on. It stays beside the rest, which the end of the input still needs when it is false.
     pub more: bool,
 }
 

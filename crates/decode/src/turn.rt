@@ -88,6 +88,7 @@ pub(crate) fn lay_read(run: Run, answered: Option<usize>, buf: &mut [u8], out: &
 {
     match answered {
         None => silent(stopped()),
+        // Not by a pattern Some(0): the check then has no fact n ≢ 0 for the arm behind it.
         Some(n) => {
             if n == 0 {
                 silent(ended(run))
