@@ -19,8 +19,7 @@ use Rattle.tlp.specs.declared.packet.Kind.{Kind}
 use Rattle.tlp.specs.declared.packet.Kind.TheVariants.{MemoryRead, MemoryWrite, IoRead, IoWrite, ConfigRead0, ConfigWrite0, ConfigRead1, ConfigWrite1, Message, MessageData, Completion, CompletionData}
 use Rattle.tlp.specs.declared.packet.Packet.{Packet}
 use Rattle.tlp_writable.specs.Given.{length_bad, request_bad, config_bad, message_bad, completion_bad, own_bad, address_route_bad, id_route_bad, message_route_bad, route_bad}
-use Rattle.tlp_record.specs.declared.KindFields.{KindFields}
-use Rattle.tlp_record.specs.Record.{request_fields, config_fields, message_fields, completion_fields, fields_of, record_with, record_of, request_in, config_in, message_in, completion_in, kind_in, route_in, record_packet, is_record}
+use Rattle.tlp_record.specs.Record.{KindFields, request_fields, config_fields, message_fields, completion_fields, fields_of, record_with, record_of, request_in, config_in, message_in, completion_in, kind_in, route_in, record_packet, is_record}
 use Rattle.bits.proofs.SameLaws.{same_self}
 use Rattle.tlp_demands.specs.PacketRecords.{RecordOfWritable, RecordOfRead}
 use Rattle.tlp_demands.proofs.Tests.{left-no, right-no}

@@ -15,12 +15,27 @@ use Rattle.tlp.specs.declared.packet.CompletionHeader.{CompletionHeader}
 use Rattle.tlp.specs.declared.packet.Kind.{Kind}
 use Rattle.tlp.specs.declared.packet.Kind.TheVariants.{MemoryRead, MemoryWrite, IoRead, IoWrite, ConfigRead0, ConfigWrite0, ConfigRead1, ConfigWrite1, Message, MessageData, Completion, CompletionData}
 use Rattle.tlp.specs.declared.packet.Packet.{Packet}
-use Rattle.tlp_record.specs.declared.KindFields.{KindFields}
 use Rattle.tlp_record.specs.Places.{kind_place, traffic_class_place, attributes_place, poisoned_place, digest_present_place, route_place, tag_place, message_code_place, route_value_place, route_id_place, message_bytes_place, digest_place, length_place, byte_count_place, source_id_place, first_enables_place, last_enables_place, extended_register_place, register_place, status_place, byte_count_modified_place, lower_address_place}
 
 -- ---- from a packet to its record
 
--- the fields that only some kinds have, each 0 where the kind has none
+-- a kind's number and the fields that only some kinds have, each 0 where the kind has none
+pub record KindFields : Type 0 where
+  pub kind : ℕ
+  pub tag : ℕ
+  pub code : ℕ
+  pub body : ℕ
+  pub length : ℕ
+  pub byte_count : ℕ
+  pub id : ℕ
+  pub first : ℕ
+  pub last : ℕ
+  pub extended_register : ℕ
+  pub register : ℕ
+  pub status : ℕ
+  pub byte_count_modified : Bool
+  pub lower_address : ℕ
+
 abbrev pub request_fields : ℕ → Request → KindFields
 request_fields kind q = record {
   kind = kind;

@@ -133,7 +133,7 @@ fn lay_request(sizes: Sizes, packet: &[u8], record: &mut [u8; RECORD_SIZE])
     lay_count(0, requester_at(packet), first, last, record);
 }
 
-// ---- the families
+// ---- the families: each has its own kinds and parts
 
 // The bytes of an address, its two low bits left out: no number is made of them.
 fn lay_address(packet: &[u8], record: &mut [u8; RECORD_SIZE])

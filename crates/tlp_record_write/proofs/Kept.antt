@@ -17,8 +17,7 @@ use Rattle.bits.proofs.WordLaws.{AllBytes, word_bytes, word_lt, bytes-word-at}
 use Rattle.tlp.specs.declared.packet.Kind.{Kind}
 use Rattle.tlp.specs.declared.packet.Route.{Route}
 use Rattle.tlp.specs.declared.packet.Packet.{Packet}
-use Rattle.tlp_record.specs.declared.KindFields.{KindFields}
-use Rattle.tlp_record.specs.Record.{request_fields, config_fields, message_fields, completion_fields, fields_of, route_case, route_value, record_with, record_of, request_in, config_in, message_in, completion_in, kind_numbered, kind_in, route_numbered, route_in, record_packet, is_record}
+use Rattle.tlp_record.specs.Record.{KindFields, request_fields, config_fields, message_fields, completion_fields, fields_of, route_case, route_value, record_with, record_of, request_in, config_in, message_in, completion_in, kind_numbered, kind_in, route_numbered, route_in, record_packet, is_record}
 
 -- ---- several tests
 

@@ -1,5 +1,5 @@
 // What is looked at in the records of some kinds only: what a kind does not have is 0, what it has is within its
-// bounds.
+// bounds. Each kind has its own list of what is 0: as a list of places it would be read byte by byte.
 ghost use Rattle.std.specs.Prelude.{◌≡◌};
 ghost use Rattle.bits.specs.Choice.{pick};
 ghost use Rattle.bits.specs.Word.{byte, word};
