@@ -65,9 +65,6 @@ module _ (valid : Bool) (o : Origin) (x : Option Read) (q : ReadRequest) (tag ro
     reach : (z : Result Unit Refusal) → z ≡ checked (first (request_rows q ++ after)) → z ≡ checked (first (rows_before24 valid o x q tag room))
     reach z k = k ∙ ap (λ (n : ℕ). checked n) (unfold first in rw h)
 
-    pub given-refused : (r : Refusal) → d ≡ Err r → Err r ≡ checked (first (rows_before24 valid o x q tag room))
-    given-refused r k = reach (Err r) (earlier (request_rows q) after d e r k)
-
     module _ (u : Unit {0}) (k : d ≡ Ok u) (n : ℕ) (l : n ≡ tag_limit o.settings) where
       pub limit-over : n ≤ tag → Err TagOverLimit ≡ checked (first (rows_before24 valid o x q tag room))
       limit-over m = reach (Err TagOverLimit) (later (request_rows q) after d e u (Err TagOverLimit) refl k (unfold first refusal in rw (← l, le-leb n tag m)))

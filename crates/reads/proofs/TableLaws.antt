@@ -48,8 +48,6 @@ module _ (o : Origin) (opened words : List ℕ) where
     unfolding owed_sum owed_at state_at
     owed_seen m h = rw e at h
 
-pub ruleset seen-laws = (valid_seen, state_seen, shares-seen)
-
 -- the records of two tags, in either order
 pub with-order : (t : Table) (u v : ℕ) (x y : Option Read) → (u ≡ v → ⊥) → with_state (with_state t u x) v y ≡ with_state (with_state t v y) u x
 unfolding with_state

@@ -7,7 +7,7 @@ use mathlib.Core.List.{List}
 use lib.Dec.{ltb, leb, eqb}
 use lib.ListN.{length, take, drop}
 use borrow.Author.Tests.{not-true, not-false, eqb-true, ltb-false, le-leb}
-use Rattle.std.specs.Prelude.{Option, Some, Result, Ok, Err}
+use Rattle.std.specs.Prelude.{Option, Result, Ok, Err}
 use Rattle.bits.specs.Choice.{pick}
 use Rattle.bits.specs.Word.{byte}
 use Rattle.tlp.specs.Rows.{first}
@@ -38,40 +38,13 @@ use Rattle.reads.specs.declared.take.Outcome.{Outcome}
 use Rattle.reads_answers.specs.declared.TakeAnswer.{TakeAnswer}
 use Rattle.reads_answers.specs.declared.TakeAnswer.TheVariants.{More, Done, Failed, Poisoned, Unread, Refused}
 use Rattle.reads.specs.Tables.{table_of, state_at, with_state, valid_table}
-use Rattle.reads_answers.specs.Takes.{read_in, tag_of, piece_answer, packet_answer}
+use Rattle.reads_answers.specs.Takes.{read_in, tag_of, packet_answer}
 use Rattle.reads_answers.proofs.TakeLaws.{answer-other, answer-piece, more-le}
-use Rattle.reads.specs.TakeCall.{advanced, table_given, store_given, packet_taking, packet_store, answer_taking, answer_store, take_call, take_store}
+use Rattle.reads.specs.TakeCall.{table_given, packet_taking, packet_store, answer_taking, answer_store, take_call, take_store}
 use Rattle.reads.proofs.OpenLaws.{ok-none}
 use Rattle.reads.specs.Inner.Steps.{takes, record_given, other_answer, kept, piece_outcome, piece_at, fault_in, judged_outcome, completion_outcome, take_outcome, outcome_of, piece_laid, judged_laid, completion_laid, take_laid, laid_of}
 
--- ---- what an answer does to table and store
-
-pub advanced-case : (x v y : Option Read) (n : ℕ) → x ≡ v → y ≡ advanced v n → y ≡ advanced x n
-advanced-case x v y n e q = rw e q
-
-pub advance-fits : (x : Option Read) (r : Read) (n : ℕ) → x ≡ Some r → (read_in x).taken + n ≤ (read_in x).request.access.length → r.taken + n ≤ r.request.access.length
-advance-fits x r n e h = rw e at h
-
-pub fits-when : (a : TakeAnswer) (m n : ℕ) → (a ≡ More → m ≤ n) → a ≡ More → m ≤ n
-fits-when a m n f e = f e
-
-pub given-more : (a : TakeAnswer) (x y : Option Read) (n : ℕ) → a ≡ More → y ≡ advanced x n → y ≡ record_given a x n
-given-more a x y n e q = rw e q
-
-pub given-case : (a v : TakeAnswer) (x y : Option Read) (n : ℕ) → a ≡ v → y ≡ record_given v x n → y ≡ record_given a x n
-given-case a v x y n e q = rw e q
-
-pub store-case : (a v : TakeAnswer) (r : Read) (payload store store' : List ℕ) → a ≡ v → store' ≡ store_given v r payload store → store' ≡ store_given a r payload store
-store-case a v r payload store store' e q = rw e q
-
 -- ---- a completion
-
-module _ (o : Origin) (x : Option Read) (c : Piece) (a : TakeAnswer) where
-  pub piece-outcome : (room : ℕ) → a ≡ piece_answer o x c room → record { answer = a; length = c.length } ≡ piece_outcome o x c room
-  piece-outcome room e = rw e
-
-  pub piece-laid : (payload store store' : List ℕ) (r : Read) → a ≡ piece_answer o x c (length store) → r ≡ read_in x → store' ≡ store_given a r payload store → store' ≡ piece_laid o x c payload store
-  piece-laid payload store store' r e k q = rw (← e, ← k) q
 
 module _ (o : Origin) (x : Option Read) (bytes : List ℕ) (p : Packet) (c : Piece) (f : Result Unit Refusal) (ep : p ≡ completion_packet bytes) (ec : c ≡ piece_of p)
     (ef : f ≡ checked (first (completion_rows o.settings.mps c.length bytes))) where
@@ -314,13 +287,6 @@ module _ (t : Table) (bytes : List ℕ) where
       go true e true h = completion-left h (valid-listed t e) store
       go true e false h = other-left h store
       go false e b h = refl
-
-module _ (t : Table) (tag : ℕ) (v : Bool) (x : Option Read) (e : v ≡ valid_table t) (f : x ≡ state_at t tag) (bytes : List ℕ) where
-  pub outcome-seen : (room : ℕ) (d : Outcome) → d ≡ take_outcome v t.origin x bytes room → d ≡ outcome_of t tag bytes room
-  outcome-seen room d g = rw (e, f) at g
-
-  pub laid-seen : (store store' : List ℕ) → store' ≡ take_laid v t.origin x bytes store → store' ≡ laid_of t tag bytes store
-  laid-seen store store' g = rw (e, f) at g
 
 module _ (o : Origin) (opened words bytes : List ℕ) (tag : ℕ) (e : tag ≡ byte bytes 10) where
   module _ (room : ℕ) (d : Outcome) (g : d ≡ outcome_of (table_of o opened words) tag bytes room) (r : Bool) (h : r ≡ takes d.answer) where

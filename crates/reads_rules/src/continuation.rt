@@ -87,7 +87,7 @@ pub fn cut_allowed(rcb: u32, a: Access, p: u32, n: u32) -> bool
 
 // Whether a completion legally continues a read. What stands before the first enabled byte is asked once, for both
 // fields.
-#[tactic(auto, using(crate::proofs::ContinuationLaws::count_of, crate::proofs::ContinuationLaws::lower_of), unfolding(crate::specs::Continuations::legal),)]
+#[tactic(auto, using(crate::proofs::ContinuationLaws::count_of, crate::proofs::ContinuationLaws::lower_of), unfolding(crate::specs::Continuations::legal))]
 pub fn legal(o: Origin, r: Read, c: Piece) -> bool
     ensures { result ≡ legal o r c }
 {

@@ -138,8 +138,6 @@ module _ (P : Read → Bool → Type 0) (limit : ℕ) (opened words : List ℕ) 
       go u r q true x = let y = ltb-true u capacity x in p u r (omega arith) q
       go u r q false x = absurd (not-open r (sym (none_over limit opened words u (ltb-false u capacity x)) ∙ q))
 
-pub ruleset any-laws = (stands-start, looked-start, found-lowest, stands-turn, looked-turn, passed-word, passed-all)
-
 -- ---- 11 and 24
 
 module _ (limit : ℕ) (opened words : List ℕ) where

@@ -1,4 +1,3 @@
 pub mod RecordLaws
-mod Returns
 mod ScanLaws
 mod AnyOpenLaws

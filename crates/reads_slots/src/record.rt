@@ -7,23 +7,27 @@ use reads_words::tag_set::{TagSet, contains, with_tag, without_tag};
 use reads_words::words::{Words, clear_read, put_read, read_at};
 
 // What is kept of a tag, whether it is below the limit or not.
+#[tactic(auto, unfolding(crate::specs::Records::record_at))]
 pub fn record_at(opened: &TagSet, words: &Words, tag: usize) -> Option<Read>
     ensures { result ≡ record_at opened.now words.now tag }
 {
-    if !contains(opened, tag) {
-        return None;
+    if contains(opened, tag) {
+        Some(read_at(words, tag))
+    } else {
+        None
     }
-    Some(read_at(words, tag))
 }
 
 // A tag's record; one that is not below the limit is free.
+#[tactic(auto, unfolding(crate::specs::Records::state_below))]
 pub fn state_below(limit: usize, opened: &TagSet, words: &Words, tag: usize) -> Option<Read>
     ensures { result ≡ state_below limit opened.now words.now tag }
 {
-    if limit <= tag {
-        return None;
+    if tag < limit {
+        record_at(opened, words, tag)
+    } else {
+        None
     }
-    record_at(opened, words, tag)
 }
 
 // Puts a tag's record: every change of one is this.

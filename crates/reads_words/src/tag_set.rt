@@ -7,6 +7,7 @@ ghost use Rattle.reads_words.specs.TagSets.{word_below};
 use crate::CAPACITY;
 use bits::count::lowest_bit;
 
+// An array, and no struct over it: a C caller lends it as one.
 pub type TagSet = [u64; CAPACITY / 64];
 
 // Whether bit b of a word is set.
@@ -22,10 +23,7 @@ fn with_bit(w: u64, b: usize) -> u64
     requires { b < 64 }
     ensures { result ≡ with_bit w b }
 {
-    if has_bit(w, b) {
-        return w;
-    }
-    w + (1 << b)
+    if has_bit(w, b) { w } else { w + (1 << b) }
 }
 
 // A word with bit b clear.
@@ -33,43 +31,37 @@ fn without_bit(w: u64, b: usize) -> u64
     requires { b < 64 }
     ensures { result ≡ without_bit w b }
 {
-    if has_bit(w, b) {
-        return w - (1 << b);
-    }
-    w
+    if has_bit(w, b) { w - (1 << b) } else { w }
 }
 
 // Whether a tag is in the set.
+#[tactic(auto, unfolding(crate::specs::TagSets::contains))]
 pub fn contains(tags: &TagSet, tag: usize) -> bool
     ensures { result ≡ contains tags.now tag }
 {
-    if CAPACITY <= tag {
-        return false;
-    }
-    let j = tag / 64;
-    has_bit(tags[j], tag % 64)
+    tag < CAPACITY && has_bit(tags[tag / 64], tag % 64)
 }
 
 // Puts a tag into the set.
+#[tactic(auto, unfolding(crate::specs::TagSets::changed))]
 pub fn with_tag(tags: &mut TagSet, tag: usize)
     ensures { tags.new ≡ with_tag tags.old tag }
 {
-    if CAPACITY <= tag {
-        return;
+    if tag < CAPACITY {
+        let j = tag / 64;
+        tags[j] = with_bit(tags[j], tag % 64);
     }
-    let j = tag / 64;
-    tags[j] = with_bit(tags[j], tag % 64);
 }
 
 // Takes a tag out of the set.
+#[tactic(auto, unfolding(crate::specs::TagSets::changed))]
 pub fn without_tag(tags: &mut TagSet, tag: usize)
     ensures { tags.new ≡ without_tag tags.old tag }
 {
-    if CAPACITY <= tag {
-        return;
+    if tag < CAPACITY {
+        let j = tag / 64;
+        tags[j] = without_bit(tags[j], tag % 64);
     }
-    let j = tag / 64;
-    tags[j] = without_bit(tags[j], tag % 64);
 }
 
 // ---- the tags of a set, a word at a time
@@ -78,28 +70,20 @@ pub fn without_tag(tags: &mut TagSet, tag: usize)
 fn low_bits(w: u64, n: usize) -> u64
     ensures { result ≡ low w n }
 {
-    if 64 <= n {
-        return w;
-    }
-    w % (1 << n)
+    if 64 <= n { w } else { w % (1 << n) }
 }
 
 // A word whose first tag is from, with the tags below the limit alone.
+#[tactic(auto, unfolding(crate::specs::TagSets::word_below))]
 pub fn word_below(w: u64, from: usize, limit: usize) -> u64
     ensures { result ≡ word_below w from limit }
 {
-    if limit <= from {
-        return 0;
-    }
-    low_bits(w, limit - from)
+    low_bits(w, limit.saturating_sub(from))
 }
 
 // A word without its lowest tag; a word of zero has none.
 pub fn without_lowest(w: u64) -> u64
     ensures { result ≡ without_lowest w }
 {
-    if w == 0 {
-        return 0;
-    }
-    w - (1 << lowest_bit(w))
+    if w == 0 { 0 } else { w - (1 << lowest_bit(w)) }
 }

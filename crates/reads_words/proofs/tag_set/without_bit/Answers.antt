@@ -8,5 +8,5 @@ overflow_sub-result c = search (set-laws, rules)
 pub returns-then-has_bit : goal.returns-then-has_bit
 returns-then-has_bit c = search (set-laws, rules)
 
-pub returns : goal.returns
-returns c = search (set-laws, rules)
+pub returns-else-has_bit : goal.returns-else-has_bit
+returns-else-has_bit c = search (set-laws, rules)
