@@ -52,12 +52,7 @@ pub(crate) fn run_force(line: &[u8], mut t: Table) -> Table {
     match force_in(line) {
         Some(f) if may_open(t.origin, f.tag) => {
             let mut opened = t.opened;
-            put_state(
-                &mut opened,
-                &mut t.words,
-                f.tag as usize,
-                Some(f.read),
-            );
+            put_state(&mut opened, &mut t.words, f.tag as usize, Some(f.read));
             t.opened = opened;
             print_words(b"force");
         }
