@@ -152,9 +152,6 @@ module _ (block : List ℕ) where
   read-reached from z (done blocks e) m = absurd (false≢true (sym (ap (λ (x : Stage). x.run.more) e) ∙ m))
   read-reached from z (stopped e) m = absurd (false≢true (sym (ap (λ (x : Stage). x.run.more) e) ∙ m))
 
-pub kept-within : (most : ℕ) (run : Run) (buf : List ℕ) → Counted most run → length buf ≡ input_room → run.kept ≤ length buf
-kept-within most run buf g room = omega (arith, room, g.kept)
-
 -- a turn: the buffer before it, after read_block and after lay_read
 module _ (run : Run) (buf buf1 buf2 : List ℕ) (z : Option ℕ) (after : Run) (reached : Reached (stage_in run buf)) (more : run.more ≡ true)
     (front : part buf1 0 run.kept ≡ part buf 0 run.kept) (stage : stage_in after buf2 ≡ turn_stage (stage_in run buf1) (block_in run buf1 z) z) where
