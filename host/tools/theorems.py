@@ -14,7 +14,7 @@ import re
 ROOT = os.path.dirname(os.path.dirname(os.path.dirname(os.path.abspath(__file__))))
 STATED = re.compile(r"(?m)^(?:(?:abbrev|unfoldable) pub|pub record) (\w+) : Type 0(?: where)?$")
 DATA = {
-    "Case", "Decoding", "Edge", "History", "LentCall", "PacketText", "Records", "Row", "Said", "Stage", "Stepping", "Worked",
+    "Case", "Decoding", "Edge", "History", "KindFields", "LentCall", "PacketText", "Records", "Row", "Said", "Stage", "Stepping", "Worked",
 }
 # A name of several words, or of one with a number: `ReadExactly`, `Demand1`. One word alone is a type or a case.
 NAME = re.compile(r"`([A-Z][a-z]+(?:[A-Z][a-z]+|\d+)+)`")
