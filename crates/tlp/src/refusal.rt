@@ -1,6 +1,6 @@
 // Why a call is refused: every number that one answers, by its name. numbers.txt says when each is given.
 ghost use Rattle.std.specs.Prelude.{◌≡◌};
-ghost use Rattle.tlp.specs.Refusals.{number};
+ghost use Rattle.tlp.specs.Refusals.{number, number_in};
 
 #[derive(Clone, Copy, Debug, PartialEq, Eq)]
 pub enum Refusal {
@@ -37,5 +37,15 @@ impl Refusal {
         ensures { result ≡ number self }
     {
         self as u32
+    }
+}
+
+// The number of an answer; 0 for accepted.
+pub fn number_in<T: Drop>(answer: Result<T, Refusal>) -> u32
+    ensures { result ≡ number_in answer }
+{
+    match answer {
+        Ok(_) => 0,
+        Err(refusal) => refusal.number(),
     }
 }
