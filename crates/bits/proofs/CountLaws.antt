@@ -2,8 +2,8 @@
 use mathlib.Core.Path.{◌≡◌, refl, sym, ap, ◌∙◌}
 use mathlib.Core.Bool.{Bool, true, false}
 use mathlib.Core.Logic.{◌⊎◌, inl, inr, ⊎_elim}
-use Prim.Native.Nat.{ℕ, zero, suc, ◌+◌, ◌-◌, ◌*◌, ◌/◌, ◌%◌, ◌^◌, ◌≤◌, ◌<◌}
-use native.Mathlib.Nat.{eq-zero-or-pos, lt_of_lt_of_le, mod-eq_of_lt, mod-lt, mod-one, div-one, pow-suc, zero-add, zero-mul, le-suc, lt-div-mul-add, div-mul-le_self, lt_of_not-le, not-le_of_lt, lt_of_le_of_lt}
+use Prim.Native.Nat.{ℕ, zero, suc, min, ◌+◌, ◌-◌, ◌*◌, ◌/◌, ◌%◌, ◌^◌, ◌≤◌, ◌<◌}
+use native.Mathlib.Nat.{eq-zero-or-pos, lt_of_lt_of_le, mod-eq_of_lt, mod-lt, mod-one, div-one, pow-suc, zero-add, zero-mul, le-suc, lt-div-mul-add, div-mul-le_self, lt_of_not-le, not-le_of_lt, lt_of_le_of_lt, min-zero, zero-min, suc-min-suc}
 use native.Mathlib.Numerals.{add-one, one-add}
 use native.Mathlib.Decide.{le_ind}
 use native.Mathlib.Omega.{arith}
@@ -57,6 +57,14 @@ pub trailing_narrow : (j k x : ℕ) → j ≤ k → 0 < x → x < 2 ^ j → coun
 trailing_narrow j k x l p h =
     le_ind (λ (m : ℕ). count_trailing_zeros m x ≡ count_trailing_zeros j x) refl
     (λ m q e. below_more m x p (lt_of_lt_of_le h (pow_mono q)) ∙ e) k l
+
+-- the zeros below in the j low bits, by those of a greater width
+pub trailing-least : (j k x : ℕ) → j ≤ k → min (count_trailing_zeros k x) j ≡ count_trailing_zeros j x
+unfolding count_trailing_zeros
+trailing-least zero k x l = min-zero _
+trailing-least (suc j) zero x l = absurd (omega arith)
+trailing-least (suc j) (suc k) x l =
+    ⊎_elim (λ e. rw e (suc-min-suc _ _ ∙ ap suc (trailing-least j k (x / 2) (omega arith)))) (λ e. rw e (zero-min _)) (two_cases x)
 
 -- a number of j bits has k - j zeros more above at the width k
 pub leading_narrow : (j k x : ℕ) → j ≤ k → x < 2 ^ j → count_leading_zeros k x ≡ count_leading_zeros j x + (k - j)

@@ -6,26 +6,21 @@ ghost use Rattle.bits.specs.Count.{clear_below, clear_above, set_bits};
 pub fn clear_below(x: u8) -> u32
     ensures { result ≡ clear_below 4 (x % 16) }
 {
-    let n = x % 16;
-    if n == 0 {
-        4
-    } else {
-        (n as u32).trailing_zeros()
-    }
+    u32::from(x % 16).trailing_zeros().min(4)
 }
 
 // The clear bits above the highest set bit of a nibble; 4 where none is set.
 pub fn clear_above(x: u8) -> u32
     ensures { result ≡ clear_above 4 (x % 16) }
 {
-    ((x % 16) as u32).leading_zeros() - 28
+    u32::from(x % 16).leading_zeros() - 28
 }
 
 // The set bits of a nibble.
 pub fn set_bits(x: u8) -> u32
     ensures { result ≡ set_bits 4 (x % 16) }
 {
-    ((x % 16) as u32).count_ones()
+    u32::from(x % 16).count_ones()
 }
 
 // The lowest bit that is set; 64 where none is.

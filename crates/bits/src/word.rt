@@ -18,6 +18,7 @@ pub fn join16(a: u8, b: u8) -> u16
     u16::from_be_bytes([a, b])
 }
 
+// No call of the library joins two numbers that are no bytes.
 pub fn join32(a: u16, b: u16) -> u32
     ensures { result ≡ a * 65536 + b }
 {
@@ -30,11 +31,12 @@ pub fn join64(a: u32, b: u32) -> u64
     u64::from(a) * 4294967296 + u64::from(b)
 }
 
-// The number in the two bytes from a place on.
+// The number in the two bytes from a place on. One function a size: the size fixes the type, and a caller's place is a
+// number known to it.
 pub fn word16(src: &[u8], at: u16) -> u16
     ensures { result ≡ word 2 src.now at }
 {
-    let i = at as u32;
+    let i = u32::from(at);
     u16::from_be_bytes([byte_at(src, i), byte_at(src, i + 1)])
 }
 
@@ -42,7 +44,7 @@ pub fn word16(src: &[u8], at: u16) -> u16
 pub fn word32(src: &[u8], at: u16) -> u32
     ensures { result ≡ word 4 src.now at }
 {
-    let i = at as u32;
+    let i = u32::from(at);
     u32::from_be_bytes([
         byte_at(src, i),
         byte_at(src, i + 1),
@@ -55,7 +57,7 @@ pub fn word32(src: &[u8], at: u16) -> u32
 pub fn word64(src: &[u8], at: u16) -> u64
     ensures { result ≡ word 8 src.now at }
 {
-    let i = at as u32;
+    let i = u32::from(at);
     u64::from_be_bytes([
         byte_at(src, i),
         byte_at(src, i + 1),
@@ -73,20 +75,21 @@ pub fn whole64(src: &[u8], at: u16) -> u64
     ensures value { result ≡ whole_word 8 src.now at }
     ensures whole { at + 8 ≤ length src.now → result ≡ word 8 src.now at }
 {
-    let i = at as usize;
-    if src.len() < i + 8 {
-        return 0;
+    let i = usize::from(at);
+    if i + 8 <= src.len() {
+        u64::from_be_bytes([
+            src[i],
+            src[i + 1],
+            src[i + 2],
+            src[i + 3],
+            src[i + 4],
+            src[i + 5],
+            src[i + 6],
+            src[i + 7],
+        ])
+    } else {
+        0
     }
-    u64::from_be_bytes([
-        src[i],
-        src[i + 1],
-        src[i + 2],
-        src[i + 3],
-        src[i + 4],
-        src[i + 5],
-        src[i + 6],
-        src[i + 7],
-    ])
 }
 
 // A number's two bytes, the high byte first.

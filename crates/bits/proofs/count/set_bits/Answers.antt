@@ -4,4 +4,4 @@ use Rattle.bits.proofs.CountLaws.{ones-set}
 use Rattle.bits.proofs.count.set_bits.Goals as goal
 
 pub returns : goal.returns
-returns c = ones-set 4 (c.args.x % 16) (omega arith)
+returns c = rw c.from.ensures (ones-set 4 (c.args.x % 16) (omega arith))
