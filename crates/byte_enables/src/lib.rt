@@ -1,4 +1,4 @@
-// Byte enables of a request.
+// Byte enables of a request. `as`, not u64::from, in the two counts of enabled bytes: with it the check did not find them.
 #![tactic(auto)]
 
 ghost use Rattle.std.specs.Prelude.{◌≡◌, ℕ, ◌+◌, ◌-◌, ◌*◌, ◌/◌, ◌%◌, List, [], ◌∷◌};
@@ -93,7 +93,7 @@ pub fn enabled_at(a: Access, k: u64) -> bool
     ensures { result ≡ enabled a k }
 {
     let i = k / 4;
-    i < a.length as u64 && (enables_at(a, i as u32) >> (k % 4)) % 2 == 1
+    i < u64::from(a.length) && (enables_at(a, i as u32) >> (k % 4)) % 2 == 1
 }
 
 // The enabled bytes of the first m doublewords: every byte, but for those clear at the two ends.
@@ -101,11 +101,10 @@ fn enabled_below(a: Access, m: u64) -> u64
     ensures { result ≡ enabled_bytes a 0 m }
 {
     let n = a.length as u64;
-    if m == 0 || n == 0 {
-        return 0;
-    }
     let first = bits::count::set_bits(a.first) as u64;
-    if m < n {
+    if m == 0 || n == 0 {
+        0
+    } else if m < n {
         first + 4 * (m - 1)
     } else if n == 1 {
         first

@@ -1,8 +1,8 @@
 use Rattle.byte_enables.proofs.Returns.{below_laws}
 use Rattle.byte_enables.proofs.enabled_below.Goals as goal
 
-pub returns-then-m-eq0 : goal.returns-then-m-eq0
-returns-then-m-eq0 c = search below_laws
+pub returns-then-n-eq0 : goal.returns-then-n-eq0
+returns-then-n-eq0 c = search below_laws
 
 pub returns-then-m-n : goal.returns-then-m-n
 returns-then-m-n c = search below_laws
