@@ -1,4 +1,4 @@
-// Byte enables of a request. `as`, not u64::from, in the two counts of enabled bytes: with it the check did not find them.
+// Byte enables of a request. `as`, not u64::from, in both counts of enabled bytes: with it the check did not find them.
 #![tactic(auto)]
 
 ghost use Rattle.std.specs.Prelude.{◌≡◌, ℕ, ◌+◌, ◌-◌, ◌*◌, ◌/◌, ◌%◌, List, [], ◌∷◌};

@@ -28,7 +28,7 @@ fn ruled_as_one(a: Access) -> Access
 pub fn crosses_page(a: Access) -> bool
     ensures { result ≡ crosses_page a }
 {
-    4096 < a.address % 4096 + 4 * a.length as u64
+    4096 < a.address % 4096 + 4 * u64::from(a.length)
 }
 
 // The first that holds of the rows 7 and 8 of a memory request.

@@ -96,7 +96,8 @@ pub struct Packet {
     pub kind: Kind,
 }
 
-// The address of a route; 0 where it has none.
+// The address of a route; 0 where it has none, which is what document 01's rows look at: no Option. One function with
+// id_of would answer a u64, cut for an ID.
 pub fn address_of(r: Route) -> u64
     ensures { result ≡ address_of r }
 {
@@ -106,7 +107,7 @@ pub fn address_of(r: Route) -> u64
     }
 }
 
-// The ID of a route; 0 where it has none.
+// The ID of a route; 0 where it has none, likewise.
 pub fn id_of(r: Route) -> u16
     ensures { result ≡ id_of r }
 {

@@ -34,6 +34,7 @@ pub enum Family {
     Config,
     Message,
     Completion,
+    // As PacketType::Unlisted: the tables are total over it.
     Unlisted,
 }
 
@@ -97,7 +98,7 @@ pub fn has_data(t: PacketType) -> bool
     )
 }
 
-// Byte 0; a message adds its routing.
+// Byte 0; a message adds its routing. No From, as type_at.
 pub fn first_byte(t: PacketType) -> u8
     ensures { result ≡ first_byte t }
 {

@@ -15,13 +15,13 @@ pub struct Settings {
 fn size_listed(n: u32) -> bool
     ensures { result ≡ one_of sizes n }
 {
-    128 <= n && n <= 4096 && u32::count_ones(n) == 1
+    matches!(n, 128..=4096) && n.is_power_of_two()
 }
 
 fn boundary_listed(n: u32) -> bool
     ensures { result ≡ one_of boundaries n }
 {
-    n == 64 || n == 128
+    matches!(n, 64 | 128)
 }
 
 // Whether every setting is in its list.

@@ -7,7 +7,7 @@ ghost use Rattle.tlp.specs.PacketTypes.{header_dw, family_of, is_unlisted};
 
 use crate::packet_type::{PacketType, family_of, has_data, header_dw, is_unlisted, type_at};
 use crate::refusal::Refusal;
-use bits::word::byte_at;
+use bits::word::{byte_at, join16};
 
 // A field in which 0 stands for the largest value.
 #[tactic(auto, unfolding(crate::specs::Sizes::or_most))]
@@ -17,18 +17,12 @@ pub fn or_most(most: u32, n: u32) -> u32
     if n == 0 { most } else { n }
 }
 
-fn join_length(b2: u8, b3: u8) -> u32
-    ensures { result ≡ b2 % 4 * 256 + b3 }
-{
-    (b2 as u32) % 4 * 256 + (b3 as u32)
-}
-
 // The Length field, in doublewords.
 #[tactic(auto, unfolding(crate::specs::Sizes::length_at))]
 pub fn length_at(bytes: &[u8]) -> u32
     ensures { result ≡ length_at bytes.now }
 {
-    or_most(1024, join_length(byte_at(bytes, 2), byte_at(bytes, 3)))
+    or_most(1024, u32::from(join16(byte_at(bytes, 2) % 4, byte_at(bytes, 3))))
 }
 
 // TD: whether a digest follows.

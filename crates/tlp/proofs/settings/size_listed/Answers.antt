@@ -1,5 +1,7 @@
+use mathlib.Core.Path.{◌∙◌}
+use native.Mathlib.Omega.{arith}
 use Rattle.tlp.proofs.SettingLaws.{size-between}
 use Rattle.tlp.proofs.settings.size_listed.Goals as goal
 
-pub returns-then-n-le4096 : goal.returns-then-n-le4096
-returns-then-n-le4096 c = search size-between
+pub returns-then-matches : goal.returns-then-matches
+returns-then-matches c = c.is_power_of_two.ensures ∙ size-between c.args.n (omega arith) (omega arith)
