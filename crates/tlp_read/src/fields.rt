@@ -7,7 +7,7 @@ ghost use Rattle.tlp_read.specs.Fields.{completer_at, status_at, byte_count_modi
 ghost use Rattle.tlp_read.specs.Fields.{request_at, config_at, message_at, completion_at, implicit_at, message_route_at, route_at, kind_at, packet_at};
 ghost use Rattle.tlp_read.specs.Inner.Rows.{family_at, HeaderThere, address_read};
 
-use bits::word::{byte_at, whole64, word16, word32, word64};
+use bits::word::{byte_at, join16, whole64, word16, word32, word64};
 use tlp::packet::{
     CompletionHeader, ConfigRequest, Implicit, Kind, MessageRequest, Packet, Request, Route,
 };
@@ -74,11 +74,7 @@ pub fn poisoned_at(bytes: &[u8]) -> bool
 fn trailing_word(bytes: &[u8]) -> u32
     ensures { result ≡ word 4 (drop (length bytes.now - 4) bytes.now) 0 }
 {
-    if bytes.len() < 4 {
-        word32(bytes, 0)
-    } else {
-        word32(&bytes[bytes.len() - 4..], 0)
-    }
+    word32(&bytes[bytes.len().saturating_sub(4)..], 0)
 }
 
 // The digest, 0 where there is none.
@@ -125,7 +121,7 @@ pub fn last_enables_at(bytes: &[u8]) -> u8
 pub fn address32_at(bytes: &[u8]) -> u64
     ensures { result ≡ address_at 4 bytes.now }
 {
-    word32(bytes, 8) as u64 / 4 * 4
+    u64::from(word32(bytes, 8)) / 4 * 4
 }
 
 fn address64_at(bytes: &[u8]) -> u64
@@ -219,18 +215,12 @@ pub fn byte_count_modified_at(bytes: &[u8]) -> bool
     byte_at(bytes, 6) / 16 % 2 == 1
 }
 
-fn join_count(b6: u8, b7: u8) -> u32
-    ensures { result ≡ b6 % 16 * 256 + b7 }
-{
-    (b6 as u32) % 16 * 256 + (b7 as u32)
-}
-
 // A completion's Byte Count.
 #[tactic(auto, unfolding(crate::specs::Fields::byte_count_field_at))]
 pub fn byte_count_field_at(bytes: &[u8]) -> u32
     ensures { result ≡ byte_count_field_at bytes.now }
 {
-    or_most(4096, join_count(byte_at(bytes, 6), byte_at(bytes, 7)))
+    or_most(4096, u32::from(join16(byte_at(bytes, 6) % 16, byte_at(bytes, 7))))
 }
 
 // A completion's tag.

@@ -17,7 +17,7 @@ use tlp::refusal::Refusal;
 use tlp::settings::{Settings, settings_listed};
 use tlp::size::data_bytes;
 
-// The first number that is given for the bytes, with no packet made.
+// The first refusal that is given for the bytes, with no packet made.
 pub fn check(settings: Settings, bytes: &[u8]) -> Result<(), Refusal>
     ensures { result ≡ checked (first (read_rows settings bytes.now)) }
 {
@@ -30,7 +30,7 @@ pub fn check(settings: Settings, bytes: &[u8]) -> Result<(), Refusal>
     rows::header_fault(settings.mps, bytes)
 }
 
-// The packet in the bytes, or the first number that is given for them.
+// The packet in the bytes, or the first refusal that is given for them.
 #[tactic(auto, unfolding(crate::specs::Read::read_packet))]
 pub fn read(settings: Settings, bytes: &[u8]) -> Result<Packet, Refusal>
     ensures { result ≡ read_packet settings bytes.now }
