@@ -12,7 +12,7 @@ use borrow.Author.Tests.{eqb-true, eq-eqb, lt-ltb, le-ltb}
 use Rattle.bits.specs.Word.{byte, word}
 use Rattle.byte_enables.specs.Enables.{enables_allowed}
 use Rattle.byte_enables.specs.declared.Access.{Access}
-use Rattle.tlp.specs.Rows.{row, first}
+use Rattle.tlp.specs.Rows.{Row, row, first}
 use Rattle.tlp.specs.Settings.{settings_listed}
 use Rattle.tlp.specs.PacketTypes.{type_at, packet_type_at, header_dw, has_data, family_of, is_unlisted, is_io_or_config}
 use Rattle.tlp.specs.Packets.{address_of, access_of}
@@ -29,6 +29,9 @@ use Rattle.tlp.proofs.RowLaws.{here, next, here-not, next-not, here_lt, next-lt,
 use Rattle.tlp_read.specs.Fields.{traffic_class_at, low_attributes_at, attributes_at, hint_at, address_type_at, first_enables_at, last_enables_at, address_at, routing_at}
 use Rattle.tlp_read.specs.Fields.{request_at, config_at, route_at, kind_at, packet_at}
 use Rattle.tlp_read.specs.Inner.Rows.{Listed, access_read, address_read, not_plain_at, last_given, header_rows}
+use Rattle.std.proofs.Common.{Result, Ok, Err}
+use Rattle.tlp.specs.Refusals.{checked}
+use Rattle.tlp.specs.declared.refusal.Refusal.{Refusal}
 use Rattle.tlp_read.specs.Read.{hint_or_address_type_set, routing_bad, form_bad, judge_rows, read_rows}
 
 -- ---- sizes
@@ -104,6 +107,17 @@ unfolding bytes_called
 size_is bytes h d n eh ed en = en ∙ rw (eh, ed, ← data-field (packet_type_at bytes) bytes)
 
 -- ---- rows 4 to 10, family by family
+
+-- row 5 by a call: it refused, or it let the packet through
+pub row-5-given : (q : Result Unit Refusal) (e : Refusal) (b : Bool) (n : ℕ) → q ≡ Err e → Err e ≡ checked (first (row 5 b ∷ [])) → (b ≡ true → 5 ≡ n) → q ≡ checked n
+unfolding first
+row-5-given q e true n p k f = rw (← f refl) (p ∙ k)
+row-5-given q e false n p k f = let z : Err e ≡ Ok tt = k in cc
+
+pub row-5-passed : (r : Result Unit Refusal) (v : Unit) (b : Bool) (rs : List Row) (m : ℕ) → r ≡ Ok v → r ≡ checked (first (row 5 b ∷ [])) → m ≡ first rs → m ≡ first (row 5 b ∷ rs)
+unfolding first
+row-5-passed r v true rs m q k e = let z : Ok v ≡ checked 5 = sym q ∙ k in cc
+row-5-passed r v false rs m q k e = e
 
 -- a last test of a number that a call gave
 pub last-ne : (a b k : ℕ) → a ≡ b → not (eqb a k) ≡ not (eqb b k)

@@ -5,7 +5,7 @@ ghost use Rattle.tlp.specs.Rows.{first};
 ghost use Rattle.tlp.specs.Refusals.{checked};
 ghost use Rattle.tlp.specs.PacketTypes.{packet_type_at, header_dw, is_unlisted, is_io_or_config};
 ghost use Rattle.tlp.specs.Sizes.{digest_at, digest_bytes};
-ghost use Rattle.tlp_read.specs.Inner.Rows.{family_at, Listed, HeaderThere, access_read, data_read, most_data, hint_or_address_type_at, not_plain_at, last_given, wide_form_bad, judged_rows, header_rows};
+ghost use Rattle.tlp_read.specs.Inner.Rows.{family_at, Listed, HeaderThere, access_read, data_read, most_data, hint_or_address_type_at, not_plain_at, last_given, wide_form_bad, payload_rows, judged_rows, header_rows};
 
 use crate::fields::{
     address_type_at, first_enables_at, hint_at, last_enables_at, low_attributes_at, memory_address,
@@ -18,7 +18,8 @@ use tlp::packet_type::{Family, data_follows, family_by_type, is_listed, is_wide}
 use tlp::refusal::Refusal;
 use tlp::size::{digest_at, digest_bytes, length_at};
 
-// The size of the header of a type in the table.
+// The size of the header of a type in the table. Three functions ask that it is Listed: a struct for that would hold the
+// slice alone, and each of them would open it.
 fn header_size(bytes: &[u8]) -> usize
     requires { Listed bytes.now }
     ensures { (result ≡ 4 * header_dw (packet_type_at bytes.now)) × (result ≤ 16) }
@@ -40,8 +41,8 @@ fn data_size(bytes: &[u8]) -> usize
 
 // Header and data, with the digest where TD is set.
 pub(crate) fn size_with_digest(header: usize, payload: usize, bytes: &[u8]) -> usize
-    requires header_bound { header ≤ 16 }
-    requires payload_le_most_data { payload ≤ most_data }
+    requires header_fits { header ≤ 16 }
+    requires payload_fits { payload ≤ most_data }
     ensures { result ≡ header + payload + digest_bytes (digest_at bytes.now) }
 {
     header + payload + digest_bytes(digest_at(bytes))
@@ -92,6 +93,17 @@ struct Whole<'a> {
 }
 
 impl<'a> Whole<'a> {
+    // Row 5: more data than may be.
+    #[tactic(auto, unfolding(tlp::specs::Rows::first, tlp::specs::Refusals::refusal))]
+    fn payload_fault(self) -> Result<(), Refusal>
+        ensures { result ≡ checked (first (payload_rows self.entry.mps self.entry.bytes.now)) }
+    {
+        if (self.mps as usize) < self.payload {
+            return Err(Refusal::OverMaxPayload);
+        }
+        Ok(())
+    }
+
     fn memory_access(self) -> Access
         requires { family_at self.bytes.now ≡ Family.Memory }
         ensures { result ≡ access_read self.entry.bytes.now }
@@ -111,9 +123,7 @@ impl<'a> Whole<'a> {
         if hint_or_address_type_at(self.bytes) {
             return Err(Refusal::HintOrAddressType);
         }
-        if (self.mps as usize) < self.payload {
-            return Err(Refusal::OverMaxPayload);
-        }
+        self.payload_fault()?;
         let a = self.memory_access();
         if !enables_allowed(a) {
             return Err(Refusal::BadEnables);
@@ -132,9 +142,7 @@ impl<'a> Whole<'a> {
         requires { is_io_or_config (family_at self.bytes.now) ≡ true }
         ensures { result ≡ checked (first (judged_rows self.entry.mps self.entry.bytes.now)) }
     {
-        if (self.mps as usize) < self.payload {
-            return Err(Refusal::OverMaxPayload);
-        }
+        self.payload_fault()?;
         if not_plain_at(self.bytes) {
             return Err(Refusal::BadField);
         }
@@ -148,9 +156,7 @@ impl<'a> Whole<'a> {
         requires { family_at self.bytes.now ≡ Family.Message }
         ensures { result ≡ checked (first (judged_rows self.entry.mps self.entry.bytes.now)) }
     {
-        if (self.mps as usize) < self.payload {
-            return Err(Refusal::OverMaxPayload);
-        }
+        self.payload_fault()?;
         if 5 < routing_at(self.bytes) {
             return Err(Refusal::BadRouting);
         }
@@ -161,10 +167,7 @@ impl<'a> Whole<'a> {
         requires { family_at self.bytes.now ≡ Family.Completion }
         ensures { result ≡ checked (first (judged_rows self.entry.mps self.entry.bytes.now)) }
     {
-        if (self.mps as usize) < self.payload {
-            return Err(Refusal::OverMaxPayload);
-        }
-        Ok(())
+        self.payload_fault()
     }
 
     // The first of the rows 4 to 10 that holds.

@@ -1,5 +1,5 @@
 -- Serves the contracts of the functions of src/rows.rt, and of `fields::memory_address`.
-use Rattle.std.specs.Prelude.{ℕ, ◌*◌, ◌≤◌, ◌≡◌, Bool, false, ◌||◌, ◌&&◌, not, List, ◌∷◌, eqb, ltb, length}
+use Rattle.std.specs.Prelude.{ℕ, ◌*◌, ◌≤◌, ◌≡◌, Bool, false, ◌||◌, ◌&&◌, not, List, [], ◌∷◌, eqb, ltb, length}
 use Rattle.bits.specs.Word.{word}
 use Rattle.byte_enables.specs.declared.Access.{Access}
 use Rattle.tlp.specs.Rows.{Row, row}
@@ -53,6 +53,10 @@ last_given bytes = not (eqb (last_enables_at bytes) 0)
 -- row 10 of a memory request
 abbrev pub wide_form_bad : List ℕ → Bool
 wide_form_bad bytes = eqb (header_dw (packet_type_at bytes)) 4 && eqb (word 4 bytes 8) 0
+
+-- row 5 alone
+abbrev pub payload_rows : ℕ → List ℕ → List Row
+payload_rows mps bytes = row 5 (ltb mps (data_read bytes)) ∷ []
 
 -- rows 4 to 10
 abbrev pub judged_rows : ℕ → List ℕ → List Row

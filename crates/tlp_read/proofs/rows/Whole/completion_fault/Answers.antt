@@ -1,10 +1,7 @@
+use mathlib.Core.Path.{refl}
 use Rattle.tlp_read.proofs.ReadReturns.{completion-rows}
-use Rattle.tlp.proofs.RowLaws.{rows}
-use Rattle.tlp.proofs.RefusalLaws.{refused, accepted}
+use Rattle.tlp.proofs.RefusalLaws.{through}
 use Rattle.tlp_read.proofs.rows.Whole.completion_fault.Goals as goal
 
-pub returns-then-self : goal.returns-then-self
-returns-then-self c = search (completion-rows, rows, refused) depth 12 fits 4000
-
 pub returns : goal.returns
-returns c = search (completion-rows, rows, accepted) depth 12 fits 4000
+returns c = through _ _ _ _ c.payload_fault.ensures (completion-rows _ _ _ _ c.requires refl)

@@ -1,13 +1,16 @@
-use Rattle.tlp_read.proofs.ReadReturns.{message-rows}
-use Rattle.tlp.proofs.RowLaws.{rows}
+use mathlib.Core.Path.{refl}
+use borrow.Author.Rules.{rules}
+use Rattle.tlp_read.proofs.ReadReturns.{message-rows, row-5-given, row-5-passed}
+use Rattle.tlp.proofs.RowLaws.{here, rows}
 use Rattle.tlp.proofs.RefusalLaws.{refused, accepted}
 use Rattle.tlp_read.proofs.rows.Whole.message_fault.Goals as goal
 
-pub returns-then-self : goal.returns-then-self
-returns-then-self c = search (message-rows, rows, refused) depth 12 fits 4000
+pub returns-in_err-payload_fault : goal.returns-in_err-payload_fault
+returns-in_err-payload_fault c =
+    row-5-given _ _ _ _ (search rules) c.in_err-payload_fault.ensures (λ h. message-rows _ _ _ _ c.requires (here _ 5 _ _ refl h))
 
 pub returns-then-routing_at-gt5 : goal.returns-then-routing_at-gt5
-returns-then-routing_at-gt5 c = search (message-rows, rows, refused) depth 12 fits 4000
+returns-then-routing_at-gt5 c = search (message-rows, row-5-passed, c.in_ok-payload_fault.was, rows, refused) depth 12 fits 4000
 
 pub returns : goal.returns
-returns c = search (message-rows, rows, accepted) depth 12 fits 4000
+returns c = search (message-rows, row-5-passed, c.in_ok-payload_fault.was, rows, accepted) depth 12 fits 4000
