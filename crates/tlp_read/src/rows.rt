@@ -18,8 +18,8 @@ use tlp::packet_type::{Family, data_follows, family_by_type, is_listed, is_wide}
 use tlp::refusal::Refusal;
 use tlp::size::{digest_at, digest_bytes, length_at};
 
-// The size of the header of a type in the table. Three functions ask that it is Listed: a struct for that would hold the
-// slice alone, and each of them would open it.
+// The size of the header of a type in the table. Three functions ask that it is Listed: a struct for that would hold
+// the slice alone, and each of them would open it.
 fn header_size(bytes: &[u8]) -> usize
     requires { Listed bytes.now }
     ensures { (result ≡ 4 * header_dw (packet_type_at bytes.now)) × (result ≤ 16) }
