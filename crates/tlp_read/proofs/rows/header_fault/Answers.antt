@@ -22,4 +22,4 @@ pub fault-requires : goal.fault-requires
 fault-requires c = search (later-family, later-known, later-room, rules)
 
 pub returns : goal.returns
-returns c = search (later-laws, refused, through)
+returns c = search (later-laws, through)
