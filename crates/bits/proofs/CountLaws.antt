@@ -3,9 +3,8 @@ use mathlib.Core.Path.{◌≡◌, refl, sym, ap, ◌∙◌}
 use mathlib.Core.Bool.{Bool, true, false}
 use mathlib.Core.Logic.{◌⊎◌, inl, inr, ⊎_elim}
 use Prim.Native.Nat.{ℕ, zero, suc, min, ◌+◌, ◌-◌, ◌*◌, ◌/◌, ◌%◌, ◌^◌, ◌≤◌, ◌<◌}
-use native.Mathlib.Nat.{eq-zero-or-pos, lt_of_lt_of_le, mod-eq_of_lt, mod-lt, mod-one, div-one, pow-suc, zero-add, zero-mul, le-suc, lt-div-mul-add, div-mul-le_self, lt_of_not-le, not-le_of_lt, lt_of_le_of_lt, min-zero, zero-min, suc-min-suc}
+use native.Mathlib.Nat.{eq-zero-or-pos, mod-eq_of_lt, mod-lt, mod-one, div-one, pow-suc, zero-add, zero-mul, le-suc, lt-div-mul-add, div-mul-le_self, lt_of_not-le, not-le_of_lt, lt_of_le_of_lt, min-zero, zero-min, suc-min-suc}
 use native.Mathlib.Numerals.{add-one, one-add}
-use native.Mathlib.Decide.{le_ind}
 use native.Mathlib.Omega.{arith}
 use lib.Arith.{lt-one}
 use lib.Dec.{eqb}
@@ -43,20 +42,8 @@ below_set (suc w) x h = go (bit x 0) refl h (below_set w (x / 2))
     go true e l i = e
     go false e l i = bit_up x (clear_below w (x / 2)) ∙ i (omega arith)
 
--- a number of j bits, not 0, has as many zeros below at any greater width
 half_lt : (k n : ℕ) → n < 2 ^ suc k → n / 2 < 2 ^ k
 half_lt k n h = shr_lt k 1 (rw add-one h)
-
-below_more : (k n : ℕ) → 0 < n → n < 2 ^ k → count_trailing_zeros (suc k) n ≡ count_trailing_zeros k n
-unfolding count_trailing_zeros
-below_more zero n p h = absurd (omega (arith, lt-one h))
-below_more (suc k) n p h =
-    ⊎_elim (λ e. rw e (ap suc (below_more k (n / 2) (omega arith) (half_lt k n h)))) (λ e. rw e refl) (two_cases n)
-
-pub trailing_narrow : (j k x : ℕ) → j ≤ k → 0 < x → x < 2 ^ j → count_trailing_zeros k x ≡ count_trailing_zeros j x
-trailing_narrow j k x l p h =
-    le_ind (λ (m : ℕ). count_trailing_zeros m x ≡ count_trailing_zeros j x) refl
-    (λ m q e. below_more m x p (lt_of_lt_of_le h (pow_mono q)) ∙ e) k l
 
 -- the zeros below in the j low bits, by those of a greater width
 pub trailing-least : (j k x : ℕ) → j ≤ k → min (count_trailing_zeros k x) j ≡ count_trailing_zeros j x

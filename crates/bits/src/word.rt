@@ -1,6 +1,6 @@
 // Bytes of a slice, and numbers of several bytes, the high byte first. A place past the end reads as 0, so nobody has
 // to look first.
-ghost use Rattle.std.specs.Prelude.{◌≡◌, ℕ, ◌+◌, ◌*◌, ◌/◌, ◌%◌, ◌^◌, ◌≤◌, ◌<◌, List, [], ◌∷◌, length};
+ghost use Rattle.std.specs.Prelude.{◌≡◌, ◌+◌, ◌*◌, ◌≤◌, length};
 ghost use Rattle.bits.specs.Word.{byte, word, whole_word, bytes};
 
 // The byte at a place.

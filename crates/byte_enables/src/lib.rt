@@ -1,7 +1,7 @@
 // Byte enables of a request. `as`, not u64::from, in both counts of enabled bytes: with it the check did not find them.
 #![tactic(auto)]
 
-ghost use Rattle.std.specs.Prelude.{◌≡◌, ℕ, ◌+◌, ◌-◌, ◌*◌, ◌/◌, ◌%◌, List, [], ◌∷◌};
+ghost use Rattle.std.specs.Prelude.{◌≡◌};
 ghost use Rattle.bits.specs.Choice.{one_of};
 ghost use Rattle.byte_enables.specs.Enables.{first_kinds, last_kinds, enables_allowed, off, ending, trail, enables_at, enabled, enabled_bytes};
 
