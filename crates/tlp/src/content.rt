@@ -1,5 +1,5 @@
 // Rows 6 to 8 of the number table, over decoded values.
-ghost use Rattle.std.specs.Prelude.{◌≡◌, ℕ, ◌+◌, ◌*◌, ◌%◌};
+ghost use Rattle.std.specs.Prelude.{◌≡◌};
 ghost use Rattle.tlp.specs.Rows.{first};
 ghost use Rattle.tlp.specs.Refusals.{checked};
 ghost use Rattle.tlp.specs.Contents.{not_plain, ruled_as_one, crosses_page, fault_rows};

@@ -1,6 +1,5 @@
 // The kind table: packet types by byte 0, their header sizes, and whether data follows.
-ghost use Rattle.std.specs.Prelude.{◌≡◌, ◌/◌, ◌%◌, false, not, eqb};
-ghost use Rattle.bits.specs.Choice.{pick};
+ghost use Rattle.std.specs.Prelude.{◌≡◌, ◌%◌, false, not, eqb};
 ghost use Rattle.bits.specs.Field.{bit};
 ghost use Rattle.tlp.specs.PacketTypes.{type_at, header_dw, has_data, first_byte, family_of, is_unlisted, is_io_or_config};
 ghost use Rattle.tlp.specs.Inner.PacketTypes.{family_by_type};

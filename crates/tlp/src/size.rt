@@ -1,9 +1,8 @@
 // The size that a header calls for.
-ghost use Rattle.std.specs.Prelude.{◌≡◌, Bool, ◌&&◌, ℕ, ◌+◌, ◌*◌, ◌%◌, eqb, ltb, length};
+ghost use Rattle.std.specs.Prelude.{◌≡◌};
 ghost use Rattle.tlp.specs.Rows.{first};
 ghost use Rattle.tlp.specs.Refusals.{checked};
 ghost use Rattle.tlp.specs.Sizes.{or_most, length_at, digest_at, data_bytes, digest_bytes, bytes_called, type_rows, size_called};
-ghost use Rattle.tlp.specs.PacketTypes.{header_dw, family_of, is_unlisted};
 
 use crate::packet_type::{PacketType, family_of, has_data, header_dw, is_unlisted, type_at};
 use crate::refusal::Refusal;
