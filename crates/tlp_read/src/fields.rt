@@ -1,5 +1,5 @@
 // Where each field of a header stands, each place in one function; then what the bytes of a packet hold.
-ghost use Rattle.std.specs.Prelude.{◌≡◌, false, ℕ, ◌+◌, ◌-◌, ◌*◌, ◌/◌, ◌%◌, ◌≤◌, length, drop};
+ghost use Rattle.std.specs.Prelude.{◌≡◌, ◌-◌, ◌≤◌, length, drop};
 ghost use Rattle.bits.specs.Word.{word, whole_word};
 ghost use Rattle.tlp_read.specs.Fields.{traffic_class_at, low_attributes_at, all_attributes_at, attributes_at, hint_at, address_type_at, poisoned_at, digest_word};
 ghost use Rattle.tlp_read.specs.Fields.{requester_at, tag_at, first_enables_at, last_enables_at, address_at, route_id_at, extended_register_at, register_at, code_at, body_at, routing_at};

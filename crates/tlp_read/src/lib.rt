@@ -5,7 +5,7 @@ pub mod completion;
 pub mod fields;
 mod rows;
 
-ghost use Rattle.std.specs.Prelude.{◌≡◌, ◌+◌, ◌-◌, ◌*◌, ◌<◌, length};
+ghost use Rattle.std.specs.Prelude.{◌≡◌};
 ghost use Rattle.tlp.specs.Rows.{first};
 ghost use Rattle.tlp.specs.Refusals.{checked};
 ghost use Rattle.tlp_read.specs.Read.{read_rows, read_packet, payload_of};
