@@ -21,7 +21,8 @@ pub fn or_most(most: u32, n: u32) -> u32
 pub fn length_at(bytes: &[u8]) -> u32
     ensures { result ≡ length_at bytes.now }
 {
-    or_most(1024, u32::from(join16(byte_at(bytes, 2) % 4, byte_at(bytes, 3))))
+    let n = join16(byte_at(bytes, 2) % 4, byte_at(bytes, 3));
+    or_most(1024, u32::from(n))
 }
 
 // TD: whether a digest follows.

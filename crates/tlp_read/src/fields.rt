@@ -220,7 +220,8 @@ pub fn byte_count_modified_at(bytes: &[u8]) -> bool
 pub fn byte_count_field_at(bytes: &[u8]) -> u32
     ensures { result ≡ byte_count_field_at bytes.now }
 {
-    or_most(4096, u32::from(join16(byte_at(bytes, 6) % 16, byte_at(bytes, 7))))
+    let n = join16(byte_at(bytes, 6) % 16, byte_at(bytes, 7));
+    or_most(4096, u32::from(n))
 }
 
 // A completion's tag.
