@@ -24,7 +24,7 @@ use tlp_record::places::{
 };
 
 // What the first eight bytes have of the kind.
-#[derive(Clone, Copy)]
+#[derive(Clone, Copy, Debug, PartialEq, Eq)]
 pub struct Front {
     pub kind: u8,
     pub attributes: u8,
@@ -34,7 +34,7 @@ pub struct Front {
 }
 
 // Digest and length, read before anything is laid, and so only once.
-#[derive(Clone, Copy)]
+#[derive(Clone, Copy, Debug, PartialEq, Eq)]
 pub struct Sizes {
     pub digest: u32,
     pub length: u32,
@@ -112,13 +112,24 @@ fn lay_front(f: Front, packet: &[u8], record: &mut [u8; RECORD_SIZE])
     );
 }
 
-// Kinds with data come after those without.
+// Kinds with data come after those without. They are bytes, as record.txt gives them to C hosts.
 fn kind_from(base: u8, packet: &[u8]) -> u8
-    requires base_bound { base ≤ 11 }
+    requires room { base ≤ 11 }
     requires listed { Listed packet.now }
     ensures { result ≡ base + data_flag packet.now }
 {
     base + u8::from(data_follows(byte_at(packet, 0)))
+}
+
+// The length differs by family, the digest does not.
+fn sizes_of(length: u32, packet: &[u8]) -> Sizes
+    ensures digest { result.digest ≡ digest_word packet.now }
+    ensures length { result.length ≡ length }
+{
+    Sizes {
+        digest: digest_word(packet),
+        length,
+    }
 }
 
 // Digest and length, then requester and enables.
@@ -161,10 +172,7 @@ fn put_memory(packet: &[u8], record: &mut [u8; RECORD_SIZE])
     requires header_there { HeaderThere packet.now }
     ensures { «record».new ≡ record_laid packet.now «record».old }
 {
-    let sizes = Sizes {
-        digest: digest_word(packet),
-        length: length_at(packet),
-    };
+    let sizes = sizes_of(length_at(packet), packet);
     let front = Front {
         kind: kind_from(1, packet),
         attributes: all_attributes_at(packet),
@@ -183,10 +191,7 @@ fn put_io(packet: &[u8], record: &mut [u8; RECORD_SIZE])
     requires io { family_at packet.now ≡ Family.Io }
     ensures { «record».new ≡ record_laid packet.now «record».old }
 {
-    let sizes = Sizes {
-        digest: digest_word(packet),
-        length: length_at(packet),
-    };
+    let sizes = sizes_of(length_at(packet), packet);
     let front = Front {
         kind: kind_from(3, packet),
         attributes: low_attributes_at(packet),
@@ -225,10 +230,7 @@ fn put_config(packet: &[u8], record: &mut [u8; RECORD_SIZE])
     requires config { family_at packet.now ≡ Family.Config }
     ensures { «record».new ≡ record_laid packet.now «record».old }
 {
-    let sizes = Sizes {
-        digest: digest_word(packet),
-        length: length_at(packet),
-    };
+    let sizes = sizes_of(length_at(packet), packet);
     let front = Front {
         kind: config_kind(packet),
         attributes: low_attributes_at(packet),
@@ -254,7 +256,7 @@ fn length_given(packet: &[u8]) -> u32
     }
 }
 
-// The record's number for a message's route.
+// The record's byte for a message's route, as record.txt gives it to C hosts.
 #[tactic(auto, unfolding(tlp_read::specs::Fields::message_route_at, tlp_read::specs::Fields::implicit_at))]
 fn message_case(packet: &[u8]) -> u8
     ensures { result ≡ route_case (message_route_at packet.now) }
@@ -294,13 +296,10 @@ fn lay_counted(sizes: Sizes, count: u32, id: u16, record: &mut [u8; RECORD_SIZE]
 
 fn put_message(packet: &[u8], record: &mut [u8; RECORD_SIZE])
     requires message { family_at packet.now ≡ Family.Message }
-    requires in_bounds { 16 ≤ length packet.now }
+    requires header_there { 16 ≤ length packet.now }
     ensures { «record».new ≡ record_laid packet.now «record».old }
 {
-    let sizes = Sizes {
-        digest: digest_word(packet),
-        length: length_given(packet),
-    };
+    let sizes = sizes_of(length_given(packet), packet);
     let front = Front {
         kind: kind_from(9, packet),
         attributes: all_attributes_at(packet),
@@ -332,10 +331,7 @@ fn put_completion(packet: &[u8], record: &mut [u8; RECORD_SIZE])
     requires completion { family_at packet.now ≡ Family.Completion }
     ensures { «record».new ≡ record_laid packet.now «record».old }
 {
-    let sizes = Sizes {
-        digest: digest_word(packet),
-        length: length_given(packet),
-    };
+    let sizes = sizes_of(length_given(packet), packet);
     let front = Front {
         kind: kind_from(11, packet),
         attributes: all_attributes_at(packet),
