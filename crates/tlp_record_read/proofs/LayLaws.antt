@@ -152,6 +152,10 @@ module _ (packet : List ℕ) where
   unfolding record_of packet_at attributes_at route_at kind_at completion_at
   completion-record = completion-types CompletionRecord refl refl
 
+  -- a message's header has four doublewords
+  pub message-room : family_at packet ≡ Message → 4 * header_dw (packet_type_at packet) ≤ length packet → 16 ≤ length packet
+  message-room h l = message-types (λ (t : PacketType). 4 * header_dw t ≤ length packet → 16 ≤ length packet) (λ k. k) (λ k. k) (packet_type_at packet) h l
+
   -- what was laid, of the parts that the calls gave
   module _ (k a r t c : ℕ) (out o x y z : List ℕ) (ex : x ≡ put 0 (front_of k a r t c packet) out) (d n l : ℕ) (ed : d ≡ digest_word packet) (el : n ≡ l) where
     laid : (v w : ℕ) (count end ys : List ℕ) → length count ≡ 8 → y ≡ put 16 (bytes 8 w) (put 8 (bytes 8 v) x) → z ≡ put 32 count (put 24 (sizes_part d n) y) → o ≡ put 40 end z

@@ -144,8 +144,6 @@ fn lay_request(sizes: Sizes, packet: &[u8], record: &mut [u8; RECORD_SIZE])
     lay_count(0, requester_at(packet), first, last, record);
 }
 
-// ---- the families: each has its own kinds and parts
-
 // The bytes of an address, its two low bits left out: no number is made of them.
 fn lay_address(packet: &[u8], record: &mut [u8; RECORD_SIZE])
     requires memory { family_at packet.now ≡ Family.Memory }
@@ -167,44 +165,6 @@ fn lay_address(packet: &[u8], record: &mut [u8; RECORD_SIZE])
     }
 }
 
-fn put_memory(packet: &[u8], record: &mut [u8; RECORD_SIZE])
-    requires memory { family_at packet.now ≡ Family.Memory }
-    requires header_there { HeaderThere packet.now }
-    ensures { «record».new ≡ record_laid packet.now «record».old }
-{
-    let sizes = sizes_of(length_at(packet), packet);
-    let front = Front {
-        kind: kind_from(1, packet),
-        attributes: all_attributes_at(packet),
-        route: 0,
-        tag: tag_at(packet),
-        code: 0,
-    };
-    lay_front(front, packet, record);
-    lay_address(packet, record);
-    lay(MESSAGE_BYTES, [0; 8], record);
-    lay_request(sizes, packet, record);
-    lay(EXTENDED_REGISTER, [0; 8], record);
-}
-
-fn put_io(packet: &[u8], record: &mut [u8; RECORD_SIZE])
-    requires io { family_at packet.now ≡ Family.Io }
-    ensures { «record».new ≡ record_laid packet.now «record».old }
-{
-    let sizes = sizes_of(length_at(packet), packet);
-    let front = Front {
-        kind: kind_from(3, packet),
-        attributes: low_attributes_at(packet),
-        route: 0,
-        tag: tag_at(packet),
-        code: 0,
-    };
-    lay_front(front, packet, record);
-    lay_value(address32_at(packet), 0, record);
-    lay_request(sizes, packet, record);
-    lay(EXTENDED_REGISTER, [0; 8], record);
-}
-
 // Type 4 or 5, read or write.
 fn config_kind(packet: &[u8]) -> u8
     requires { family_at packet.now ≡ Family.Config }
@@ -224,24 +184,6 @@ fn lay_registers(packet: &[u8], record: &mut [u8; RECORD_SIZE])
         [extended, register, 0, 0, 0, 0, 0, 0],
         record,
     );
-}
-
-fn put_config(packet: &[u8], record: &mut [u8; RECORD_SIZE])
-    requires config { family_at packet.now ≡ Family.Config }
-    ensures { «record».new ≡ record_laid packet.now «record».old }
-{
-    let sizes = sizes_of(length_at(packet), packet);
-    let front = Front {
-        kind: config_kind(packet),
-        attributes: low_attributes_at(packet),
-        route: 1,
-        tag: tag_at(packet),
-        code: 0,
-    };
-    lay_front(front, packet, record);
-    lay_value(u64::from(route_id_at(packet)), 0, record);
-    lay_request(sizes, packet, record);
-    lay_registers(packet, record);
 }
 
 // Msg and Cpl have no length.
@@ -294,25 +236,6 @@ fn lay_counted(sizes: Sizes, count: u32, id: u16, record: &mut [u8; RECORD_SIZE]
     lay_count(count, id, 0, 0, record);
 }
 
-fn put_message(packet: &[u8], record: &mut [u8; RECORD_SIZE])
-    requires message { family_at packet.now ≡ Family.Message }
-    requires header_there { 16 ≤ length packet.now }
-    ensures { «record».new ≡ record_laid packet.now «record».old }
-{
-    let sizes = sizes_of(length_given(packet), packet);
-    let front = Front {
-        kind: kind_from(9, packet),
-        attributes: all_attributes_at(packet),
-        route: message_case(packet),
-        tag: tag_at(packet),
-        code: code_at(packet),
-    };
-    lay_front(front, packet, record);
-    lay_value(message_value(packet), whole_body_at(packet), record);
-    lay_counted(sizes, 0, requester_at(packet), record);
-    lay(EXTENDED_REGISTER, [0; 8], record);
-}
-
 fn lay_status(packet: &[u8], record: &mut [u8; RECORD_SIZE])
     ensures { «record».new
         ≡ put extended_register_place (status_part packet.now) «record».old }
@@ -327,37 +250,124 @@ fn lay_status(packet: &[u8], record: &mut [u8; RECORD_SIZE])
     );
 }
 
-fn put_completion(packet: &[u8], record: &mut [u8; RECORD_SIZE])
-    requires completion { family_at packet.now ≡ Family.Completion }
-    ensures { «record».new ≡ record_laid packet.now «record».old }
-{
-    let sizes = sizes_of(length_given(packet), packet);
-    let front = Front {
-        kind: kind_from(11, packet),
-        attributes: all_attributes_at(packet),
-        route: 1,
-        tag: completion_tag_at(packet),
-        code: 0,
-    };
-    lay_front(front, packet, record);
-    lay_value(u64::from(route_id_at(packet)), 0, record);
-    let count = byte_count_field_at(packet);
-    lay_counted(sizes, count, completer_at(packet), record);
-    lay_status(packet, record);
+// ---- the families: each has its own kinds and parts
+
+// The bytes of a packet whose header is there whole.
+#[derive(Clone, Copy)]
+pub(crate) struct Accepted<'a> {
+    pub(crate) packet: &'a [u8],
+    ghost header_there: { HeaderThere packet.now },
 }
 
-pub(crate) fn put_record(f: Family, packet: &[u8], record: &mut [u8; RECORD_SIZE])
-    requires own_family { f ≡ family_at packet.now }
-    requires listed { is_unlisted f ≡ false }
-    requires header_there { HeaderThere packet.now }
-    ensures { «record».new ≡ record_laid packet.now «record».old }
-{
-    match f {
-        Family::Memory => put_memory(packet, record),
-        Family::Io => put_io(packet, record),
-        Family::Config => put_config(packet, record),
-        Family::Message => put_message(packet, record),
-        Family::Completion => put_completion(packet, record),
-        Family::Unlisted => {}
+impl<'a> Accepted<'a> {
+    fn put_memory(self, record: &mut [u8; RECORD_SIZE])
+        requires memory { family_at self.packet.now ≡ Family.Memory }
+        ensures { «record».new ≡ record_laid self.entry.packet.now «record».old }
+    {
+        let sizes = sizes_of(length_at(self.packet), self.packet);
+        let front = Front {
+            kind: kind_from(1, self.packet),
+            attributes: all_attributes_at(self.packet),
+            route: 0,
+            tag: tag_at(self.packet),
+            code: 0,
+        };
+        lay_front(front, self.packet, record);
+        lay_address(self.packet, record);
+        lay(MESSAGE_BYTES, [0; 8], record);
+        lay_request(sizes, self.packet, record);
+        lay(EXTENDED_REGISTER, [0; 8], record);
+    }
+
+    fn put_io(self, record: &mut [u8; RECORD_SIZE])
+        requires io { family_at self.packet.now ≡ Family.Io }
+        ensures { «record».new ≡ record_laid self.entry.packet.now «record».old }
+    {
+        let sizes = sizes_of(length_at(self.packet), self.packet);
+        let front = Front {
+            kind: kind_from(3, self.packet),
+            attributes: low_attributes_at(self.packet),
+            route: 0,
+            tag: tag_at(self.packet),
+            code: 0,
+        };
+        lay_front(front, self.packet, record);
+        lay_value(address32_at(self.packet), 0, record);
+        lay_request(sizes, self.packet, record);
+        lay(EXTENDED_REGISTER, [0; 8], record);
+    }
+
+    fn put_config(self, record: &mut [u8; RECORD_SIZE])
+        requires config { family_at self.packet.now ≡ Family.Config }
+        ensures { «record».new ≡ record_laid self.entry.packet.now «record».old }
+    {
+        let sizes = sizes_of(length_at(self.packet), self.packet);
+        let front = Front {
+            kind: config_kind(self.packet),
+            attributes: low_attributes_at(self.packet),
+            route: 1,
+            tag: tag_at(self.packet),
+            code: 0,
+        };
+        lay_front(front, self.packet, record);
+        lay_value(u64::from(route_id_at(self.packet)), 0, record);
+        lay_request(sizes, self.packet, record);
+        lay_registers(self.packet, record);
+    }
+
+    fn put_message(self, record: &mut [u8; RECORD_SIZE])
+        requires message { family_at self.packet.now ≡ Family.Message }
+        ensures { «record».new ≡ record_laid self.entry.packet.now «record».old }
+    {
+        let sizes = sizes_of(length_given(self.packet), self.packet);
+        let front = Front {
+            kind: kind_from(9, self.packet),
+            attributes: all_attributes_at(self.packet),
+            route: message_case(self.packet),
+            tag: tag_at(self.packet),
+            code: code_at(self.packet),
+        };
+        lay_front(front, self.packet, record);
+        lay_value(
+            message_value(self.packet),
+            whole_body_at(self.packet),
+            record,
+        );
+        lay_counted(sizes, 0, requester_at(self.packet), record);
+        lay(EXTENDED_REGISTER, [0; 8], record);
+    }
+
+    fn put_completion(self, record: &mut [u8; RECORD_SIZE])
+        requires completion { family_at self.packet.now ≡ Family.Completion }
+        ensures { «record».new ≡ record_laid self.entry.packet.now «record».old }
+    {
+        let sizes = sizes_of(length_given(self.packet), self.packet);
+        let front = Front {
+            kind: kind_from(11, self.packet),
+            attributes: all_attributes_at(self.packet),
+            route: 1,
+            tag: completion_tag_at(self.packet),
+            code: 0,
+        };
+        lay_front(front, self.packet, record);
+        lay_value(u64::from(route_id_at(self.packet)), 0, record);
+        let count = byte_count_field_at(self.packet);
+        lay_counted(sizes, count, completer_at(self.packet), record);
+        lay_status(self.packet, record);
+    }
+
+    pub(crate) fn put_record(self, f: Family, record: &mut [u8; RECORD_SIZE])
+        requires own_family { f ≡ family_at self.packet.now }
+        requires listed { is_unlisted f ≡ false }
+        ensures { «record».new ≡ record_laid self.entry.packet.now «record».old }
+    {
+        match f {
+            Family::Memory => self.put_memory(record),
+            Family::Io => self.put_io(record),
+            Family::Config => self.put_config(record),
+            Family::Message => self.put_message(record),
+            Family::Completion => self.put_completion(record),
+            Family::Unlisted => {}
+        }
     }
 }
