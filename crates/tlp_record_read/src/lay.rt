@@ -1,6 +1,6 @@
 // The record of the packet in accepted bytes, laid straight over what is lent for it: no packet is made.
-ghost use Rattle.std.specs.Prelude.{◌≡◌, false, [], ◌∷◌, ◌++◌, ◌+◌, ◌*◌, ◌/◌, ◌≤◌, length};
-ghost use Rattle.bits.specs.Word.{word, bytes};
+ghost use Rattle.std.specs.Prelude.{◌≡◌, false, [], ◌∷◌, ◌++◌, ◌+◌, ◌≤◌, length};
+ghost use Rattle.bits.specs.Word.{bytes};
 ghost use Rattle.bits.specs.Put.{put};
 ghost use Rattle.tlp.specs.PacketTypes.{is_unlisted};
 ghost use Rattle.tlp_read.specs.Fields.{digest_word, message_route_at};
