@@ -144,7 +144,8 @@ fn lay_request(sizes: Sizes, packet: &[u8], record: &mut [u8; RECORD_SIZE])
     lay_count(0, requester_at(packet), first, last, record);
 }
 
-// The bytes of an address, its two low bits left out: no number is made of them.
+// The bytes of an address, its two low bits left out: no number is made of them. No method of Accepted: of a slice in a
+// struct the check knew no bounds of its bytes.
 fn lay_address(packet: &[u8], record: &mut [u8; RECORD_SIZE])
     requires memory { family_at packet.now ≡ Family.Memory }
     requires header_there { HeaderThere packet.now }
@@ -252,7 +253,8 @@ fn lay_status(packet: &[u8], record: &mut [u8; RECORD_SIZE])
 
 // ---- the families: each has its own kinds and parts
 
-// The bytes of a packet whose header is there whole.
+// The bytes of a packet whose header is there whole. Each method asks for its own family: a field for it would leave as
+// many clauses.
 #[derive(Clone, Copy)]
 pub(crate) struct Accepted<'a> {
     pub(crate) packet: &'a [u8],
