@@ -2,26 +2,15 @@
 #![tactic(auto)]
 
 ghost use Rattle.std.specs.Prelude.{◌≡◌, length};
-ghost use Rattle.tlp.specs.Refusals.{number_in};
 ghost use Rattle.tlp_read.specs.Read.{read_packet};
 ghost use Rattle.tlp_c.specs.Calls.{settings_of, write_number, written_size};
 ghost use Rattle.tlp_record_read.specs.RecordRead.{read_number, read_record};
 ghost use Rattle.tlp_record_write.specs.RecordWrite.{record_out};
 
-use tlp::refusal::Refusal;
+use tlp::refusal::number_in;
 use tlp::settings::Settings;
 use tlp_record_read::read_record;
 use tlp_record_write::write_record;
-
-// The number of an answer; 0 for accepted.
-fn number_in(answer: Result<(), Refusal>) -> u32
-    ensures { result ≡ number_in answer }
-{
-    match answer {
-        Ok(()) => 0,
-        Err(refusal) => refusal.number(),
-    }
-}
 
 // Reads a packet. Answers 0 with the packet's record over the front of record, or the number of the refusal with record
 // as it was.
@@ -57,11 +46,9 @@ pub fn tollpebble_write(
         (length out.old) size.old }
 {
     let settings = Settings { mps, mrrs, rcb };
-    match write_record(settings, record, payload, out) {
-        Ok(n) => {
-            *size = n as u64;
-            0
-        }
-        Err(refusal) => refusal.number(),
+    let answer = write_record(settings, record, payload, out);
+    if let Ok(n) = answer {
+        *size = n as u64;
     }
+    number_in(answer)
 }

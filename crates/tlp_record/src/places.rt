@@ -18,6 +18,7 @@ pub const TAG: usize = 6;
 pub const MESSAGE_CODE: usize = 7;
 
 pub const ROUTE_VALUE: usize = 8;
+
 // The ID of a route by ID: the low bytes of the route's value.
 pub const ROUTE_ID: usize = 14;
 

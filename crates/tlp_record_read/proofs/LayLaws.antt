@@ -152,39 +152,43 @@ module _ (packet : List ℕ) where
   unfolding record_of packet_at attributes_at route_at kind_at completion_at
   completion-record = completion-types CompletionRecord refl refl
 
+  -- a message's header has four doublewords
+  pub message-room : family_at packet ≡ Message → 4 * header_dw (packet_type_at packet) ≤ length packet → 16 ≤ length packet
+  message-room h l = message-types (λ (t : PacketType). 4 * header_dw t ≤ length packet → 16 ≤ length packet) (λ k. k) (λ k. k) (packet_type_at packet) h l
+
   -- what was laid, of the parts that the calls gave
-  module _ (k a r t c : ℕ) (out o x y z : List ℕ) (ex : x ≡ put 0 (front_of k a r t c packet) out) (d n : ℕ) (ed : d ≡ digest_word packet) where
+  module _ (k a r t c : ℕ) (out o x y z : List ℕ) (ex : x ≡ put 0 (front_of k a r t c packet) out) (d n l : ℕ) (ed : d ≡ digest_word packet) (el : n ≡ l) where
     laid : (v w : ℕ) (count end ys : List ℕ) → length count ≡ 8 → y ≡ put 16 (bytes 8 w) (put 8 (bytes 8 v) x) → z ≡ put 32 count (put 24 (sizes_part d n) y) → o ≡ put 40 end z
         → six_parts (front_of k a r t c packet) v w (sizes_part d n) count end ≡ ys → o ≡ over_front ys out
-    laid v w count end ys l ey ez eo e =
-        all_laid (front_of k a r t c packet) (bytes 8 v) (bytes 8 w) (sizes_part d n) count end out x y z o refl refl refl refl l ex ey ez eo ∙ ap (λ (l : List ℕ). over_front l out) e
+    laid v w count end ys b ey ez eo e =
+        all_laid (front_of k a r t c packet) (bytes 8 v) (bytes 8 w) (sizes_part d n) count end out x y z o refl refl refl refl b ex ey ez eo ∙ ap (λ (l : List ℕ). over_front l out) e
 
-    pub memory-put : (u : List ℕ) → family_at packet ≡ Memory → n ≡ length_at packet → k ≡ 1 + data_flag packet → a ≡ all_attributes_at packet → r ≡ 0 → t ≡ tag_at packet → c ≡ 0
+    pub memory-put : (u : List ℕ) → family_at packet ≡ Memory → l ≡ length_at packet → k ≡ 1 + data_flag packet → a ≡ all_attributes_at packet → r ≡ 0 → t ≡ tag_at packet → c ≡ 0
         → u ≡ put 8 (bytes 8 (address_read packet)) x → y ≡ put 16 zeros u → z ≡ put 32 (request_part packet) (put 24 (sizes_part d n) y) → o ≡ put 40 zeros z → o ≡ record_laid packet out
     memory-put u h en ek ea er et ec eu ey ez eo =
-        laid (address_read packet) 0 (request_part packet) zeros (record_read packet) refl (ey ∙ ap (put 16 zeros) eu) ez eo (rw (ed, en, ek, ea, er, et, ec) (memory-record (packet_type_at packet) h))
+        laid (address_read packet) 0 (request_part packet) zeros (record_read packet) refl (ey ∙ ap (put 16 zeros) eu) ez eo (rw (ed, el, en, ek, ea, er, et, ec) (memory-record (packet_type_at packet) h))
 
-    pub io-put : (v : ℕ) → family_at packet ≡ Io → n ≡ length_at packet → k ≡ 3 + data_flag packet → a ≡ low_attributes_at packet → r ≡ 0 → t ≡ tag_at packet → c ≡ 0 → v ≡ address_at 4 packet
+    pub io-put : (v : ℕ) → family_at packet ≡ Io → l ≡ length_at packet → k ≡ 3 + data_flag packet → a ≡ low_attributes_at packet → r ≡ 0 → t ≡ tag_at packet → c ≡ 0 → v ≡ address_at 4 packet
         → y ≡ put 16 (bytes 8 0) (put 8 (bytes 8 v) x) → z ≡ put 32 (request_part packet) (put 24 (sizes_part d n) y) → o ≡ put 40 zeros z → o ≡ record_laid packet out
     io-put v h en ek ea er et ec ev ey ez eo =
-        laid v 0 (request_part packet) zeros (record_read packet) refl ey ez eo (rw (ed, en, ek, ea, er, et, ec, ev) (io-record (packet_type_at packet) h))
+        laid v 0 (request_part packet) zeros (record_read packet) refl ey ez eo (rw (ed, el, en, ek, ea, er, et, ec, ev) (io-record (packet_type_at packet) h))
 
-    pub config-put : (v i : ℕ) → family_at packet ≡ Config → n ≡ length_at packet → k ≡ kind_read packet → a ≡ low_attributes_at packet → r ≡ 1 → t ≡ tag_at packet → c ≡ 0 → i ≡ route_id_at packet → v ≡ i
+    pub config-put : (v i : ℕ) → family_at packet ≡ Config → l ≡ length_at packet → k ≡ kind_read packet → a ≡ low_attributes_at packet → r ≡ 1 → t ≡ tag_at packet → c ≡ 0 → i ≡ route_id_at packet → v ≡ i
         → y ≡ put 16 (bytes 8 0) (put 8 (bytes 8 v) x) → z ≡ put 32 (request_part packet) (put 24 (sizes_part d n) y) → o ≡ put 40 (registers_part packet) z → o ≡ record_laid packet out
     config-put v i h en ek ea er et ec ei ev ey ez eo =
-        laid v 0 (request_part packet) (registers_part packet) (record_read packet) refl ey ez eo (rw (ed, en, ek, ea, er, et, ec, ev, ei) (config-record (packet_type_at packet) h))
+        laid v 0 (request_part packet) (registers_part packet) (record_read packet) refl ey ez eo (rw (ed, el, en, ek, ea, er, et, ec, ev, ei) (config-record (packet_type_at packet) h))
 
-    pub completion-put : (v m i j : ℕ) → family_at packet ≡ Completion → n ≡ length_given packet → k ≡ 11 + data_flag packet → a ≡ all_attributes_at packet → r ≡ 1 → t ≡ completion_tag_at packet → c ≡ 0
+    pub completion-put : (v m i j : ℕ) → family_at packet ≡ Completion → l ≡ length_given packet → k ≡ 11 + data_flag packet → a ≡ all_attributes_at packet → r ≡ 1 → t ≡ completion_tag_at packet → c ≡ 0
         → j ≡ route_id_at packet → v ≡ j → y ≡ put 16 (bytes 8 0) (put 8 (bytes 8 v) x) → m ≡ byte_count_field_at packet → i ≡ completer_at packet
         → z ≡ put 32 (counted_part m i) (put 24 (sizes_part d n) y) → o ≡ put 40 (status_part packet) z → o ≡ record_laid packet out
     completion-put v m i j h en ek ea er et ec ej ev ey em ei ez eo =
-        laid v 0 (counted_part m i) (status_part packet) (record_read packet) refl ey ez eo (rw (ed, en, ek, ea, er, et, ec, ev, ej, em, ei) (completion-record (packet_type_at packet) h))
+        laid v 0 (counted_part m i) (status_part packet) (record_read packet) refl ey ez eo (rw (ed, el, en, ek, ea, er, et, ec, ev, ej, em, ei) (completion-record (packet_type_at packet) h))
 
-    pub message-put : (v w i : ℕ) → family_at packet ≡ Message → n ≡ length_given packet → 16 ≤ length packet → k ≡ 9 + data_flag packet → a ≡ all_attributes_at packet
+    pub message-put : (v w i : ℕ) → family_at packet ≡ Message → l ≡ length_given packet → 16 ≤ length packet → k ≡ 9 + data_flag packet → a ≡ all_attributes_at packet
         → r ≡ route_case (message_route_at packet) → t ≡ tag_at packet → c ≡ code_at packet → v ≡ route_value (message_route_at packet) → (16 ≤ length packet → w ≡ body_at packet)
         → y ≡ put 16 (bytes 8 w) (put 8 (bytes 8 v) x) → i ≡ requester_at packet → z ≡ put 32 (counted_part 0 i) (put 24 (sizes_part d n) y) → o ≡ put 40 zeros z → o ≡ record_laid packet out
-    message-put v w i h en l ek ea er et ec ev ew ey ei ez eo =
-        laid v w (counted_part 0 i) zeros (record_read packet) refl ey ez eo (rw (ed, en, ek, ea, er, et, ec, ev, ew l, ei) (message-record (packet_type_at packet) h))
+    message-put v w i h en b ek ea er et ec ev ew ey ei ez eo =
+        laid v w (counted_part 0 i) zeros (record_read packet) refl ey ez eo (rw (ed, el, en, ek, ea, er, et, ec, ev, ew b, ei) (message-record (packet_type_at packet) h))
 
 -- ---- addresses
 

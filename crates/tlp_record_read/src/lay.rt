@@ -1,6 +1,6 @@
 // The record of the packet in accepted bytes, laid straight over what is lent for it: no packet is made.
-ghost use Rattle.std.specs.Prelude.{◌≡◌, false, [], ◌∷◌, ◌++◌, ◌+◌, ◌*◌, ◌/◌, ◌≤◌, length};
-ghost use Rattle.bits.specs.Word.{word, bytes};
+ghost use Rattle.std.specs.Prelude.{◌≡◌, false, [], ◌∷◌, ◌++◌, ◌+◌, ◌≤◌, length};
+ghost use Rattle.bits.specs.Word.{bytes};
 ghost use Rattle.bits.specs.Put.{put};
 ghost use Rattle.tlp.specs.PacketTypes.{is_unlisted};
 ghost use Rattle.tlp_read.specs.Fields.{digest_word, message_route_at};
@@ -24,7 +24,7 @@ use tlp_record::places::{
 };
 
 // What the first eight bytes have of the kind.
-#[derive(Clone, Copy)]
+#[derive(Clone, Copy, Debug, PartialEq, Eq)]
 pub struct Front {
     pub kind: u8,
     pub attributes: u8,
@@ -34,7 +34,7 @@ pub struct Front {
 }
 
 // Digest and length, read before anything is laid, and so only once.
-#[derive(Clone, Copy)]
+#[derive(Clone, Copy, Debug, PartialEq, Eq)]
 pub struct Sizes {
     pub digest: u32,
     pub length: u32,
@@ -112,13 +112,24 @@ fn lay_front(f: Front, packet: &[u8], record: &mut [u8; RECORD_SIZE])
     );
 }
 
-// Kinds with data come after those without.
+// Kinds with data come after those without. They are bytes, as record.txt gives them to C hosts.
 fn kind_from(base: u8, packet: &[u8]) -> u8
-    requires base_bound { base ≤ 11 }
+    requires room { base ≤ 11 }
     requires listed { Listed packet.now }
     ensures { result ≡ base + data_flag packet.now }
 {
     base + u8::from(data_follows(byte_at(packet, 0)))
+}
+
+// The length differs by family, the digest does not.
+fn sizes_of(length: u32, packet: &[u8]) -> Sizes
+    ensures digest { result.digest ≡ digest_word packet.now }
+    ensures length { result.length ≡ length }
+{
+    Sizes {
+        digest: digest_word(packet),
+        length,
+    }
 }
 
 // Digest and length, then requester and enables.
@@ -133,9 +144,8 @@ fn lay_request(sizes: Sizes, packet: &[u8], record: &mut [u8; RECORD_SIZE])
     lay_count(0, requester_at(packet), first, last, record);
 }
 
-// ---- the families: each has its own kinds and parts
-
-// The bytes of an address, its two low bits left out: no number is made of them.
+// The bytes of an address, its two low bits left out: no number is made of them. No method of Accepted: of a slice in a
+// struct the check knew no bounds of its bytes.
 fn lay_address(packet: &[u8], record: &mut [u8; RECORD_SIZE])
     requires memory { family_at packet.now ≡ Family.Memory }
     requires header_there { HeaderThere packet.now }
@@ -154,50 +164,6 @@ fn lay_address(packet: &[u8], record: &mut [u8; RECORD_SIZE])
         let last = p[11] / 4 * 4;
         lay(ROUTE_VALUE, [0, 0, 0, 0, p[8], p[9], p[10], last], record);
     }
-}
-
-fn put_memory(packet: &[u8], record: &mut [u8; RECORD_SIZE])
-    requires memory { family_at packet.now ≡ Family.Memory }
-    requires header_there { HeaderThere packet.now }
-    ensures { «record».new ≡ record_laid packet.now «record».old }
-{
-    let sizes = Sizes {
-        digest: digest_word(packet),
-        length: length_at(packet),
-    };
-    let front = Front {
-        kind: kind_from(1, packet),
-        attributes: all_attributes_at(packet),
-        route: 0,
-        tag: tag_at(packet),
-        code: 0,
-    };
-    lay_front(front, packet, record);
-    lay_address(packet, record);
-    lay(MESSAGE_BYTES, [0; 8], record);
-    lay_request(sizes, packet, record);
-    lay(EXTENDED_REGISTER, [0; 8], record);
-}
-
-fn put_io(packet: &[u8], record: &mut [u8; RECORD_SIZE])
-    requires io { family_at packet.now ≡ Family.Io }
-    ensures { «record».new ≡ record_laid packet.now «record».old }
-{
-    let sizes = Sizes {
-        digest: digest_word(packet),
-        length: length_at(packet),
-    };
-    let front = Front {
-        kind: kind_from(3, packet),
-        attributes: low_attributes_at(packet),
-        route: 0,
-        tag: tag_at(packet),
-        code: 0,
-    };
-    lay_front(front, packet, record);
-    lay_value(address32_at(packet), 0, record);
-    lay_request(sizes, packet, record);
-    lay(EXTENDED_REGISTER, [0; 8], record);
 }
 
 // Type 4 or 5, read or write.
@@ -221,27 +187,6 @@ fn lay_registers(packet: &[u8], record: &mut [u8; RECORD_SIZE])
     );
 }
 
-fn put_config(packet: &[u8], record: &mut [u8; RECORD_SIZE])
-    requires config { family_at packet.now ≡ Family.Config }
-    ensures { «record».new ≡ record_laid packet.now «record».old }
-{
-    let sizes = Sizes {
-        digest: digest_word(packet),
-        length: length_at(packet),
-    };
-    let front = Front {
-        kind: config_kind(packet),
-        attributes: low_attributes_at(packet),
-        route: 1,
-        tag: tag_at(packet),
-        code: 0,
-    };
-    lay_front(front, packet, record);
-    lay_value(u64::from(route_id_at(packet)), 0, record);
-    lay_request(sizes, packet, record);
-    lay_registers(packet, record);
-}
-
 // Msg and Cpl have no length.
 fn length_given(packet: &[u8]) -> u32
     requires { Listed packet.now }
@@ -254,7 +199,7 @@ fn length_given(packet: &[u8]) -> u32
     }
 }
 
-// The record's number for a message's route.
+// The record's byte for a message's route, as record.txt gives it to C hosts.
 #[tactic(auto, unfolding(tlp_read::specs::Fields::message_route_at, tlp_read::specs::Fields::implicit_at))]
 fn message_case(packet: &[u8]) -> u8
     ensures { result ≡ route_case (message_route_at packet.now) }
@@ -292,28 +237,6 @@ fn lay_counted(sizes: Sizes, count: u32, id: u16, record: &mut [u8; RECORD_SIZE]
     lay_count(count, id, 0, 0, record);
 }
 
-fn put_message(packet: &[u8], record: &mut [u8; RECORD_SIZE])
-    requires message { family_at packet.now ≡ Family.Message }
-    requires in_bounds { 16 ≤ length packet.now }
-    ensures { «record».new ≡ record_laid packet.now «record».old }
-{
-    let sizes = Sizes {
-        digest: digest_word(packet),
-        length: length_given(packet),
-    };
-    let front = Front {
-        kind: kind_from(9, packet),
-        attributes: all_attributes_at(packet),
-        route: message_case(packet),
-        tag: tag_at(packet),
-        code: code_at(packet),
-    };
-    lay_front(front, packet, record);
-    lay_value(message_value(packet), whole_body_at(packet), record);
-    lay_counted(sizes, 0, requester_at(packet), record);
-    lay(EXTENDED_REGISTER, [0; 8], record);
-}
-
 fn lay_status(packet: &[u8], record: &mut [u8; RECORD_SIZE])
     ensures { «record».new
         ≡ put extended_register_place (status_part packet.now) «record».old }
@@ -328,40 +251,125 @@ fn lay_status(packet: &[u8], record: &mut [u8; RECORD_SIZE])
     );
 }
 
-fn put_completion(packet: &[u8], record: &mut [u8; RECORD_SIZE])
-    requires completion { family_at packet.now ≡ Family.Completion }
-    ensures { «record».new ≡ record_laid packet.now «record».old }
-{
-    let sizes = Sizes {
-        digest: digest_word(packet),
-        length: length_given(packet),
-    };
-    let front = Front {
-        kind: kind_from(11, packet),
-        attributes: all_attributes_at(packet),
-        route: 1,
-        tag: completion_tag_at(packet),
-        code: 0,
-    };
-    lay_front(front, packet, record);
-    lay_value(u64::from(route_id_at(packet)), 0, record);
-    let count = byte_count_field_at(packet);
-    lay_counted(sizes, count, completer_at(packet), record);
-    lay_status(packet, record);
+// ---- the families: each has its own kinds and parts
+
+// The bytes of a packet whose header is there whole. Each method asks for its own family: a field for it would leave as
+// many clauses.
+#[derive(Clone, Copy)]
+pub(crate) struct Accepted<'a> {
+    pub(crate) packet: &'a [u8],
+    ghost header_there: { HeaderThere packet.now },
 }
 
-pub(crate) fn put_record(f: Family, packet: &[u8], record: &mut [u8; RECORD_SIZE])
-    requires own_family { f ≡ family_at packet.now }
-    requires listed { is_unlisted f ≡ false }
-    requires header_there { HeaderThere packet.now }
-    ensures { «record».new ≡ record_laid packet.now «record».old }
-{
-    match f {
-        Family::Memory => put_memory(packet, record),
-        Family::Io => put_io(packet, record),
-        Family::Config => put_config(packet, record),
-        Family::Message => put_message(packet, record),
-        Family::Completion => put_completion(packet, record),
-        Family::Unlisted => {}
+impl<'a> Accepted<'a> {
+    fn put_memory(self, record: &mut [u8; RECORD_SIZE])
+        requires memory { family_at self.packet.now ≡ Family.Memory }
+        ensures { «record».new ≡ record_laid self.entry.packet.now «record».old }
+    {
+        let sizes = sizes_of(length_at(self.packet), self.packet);
+        let front = Front {
+            kind: kind_from(1, self.packet),
+            attributes: all_attributes_at(self.packet),
+            route: 0,
+            tag: tag_at(self.packet),
+            code: 0,
+        };
+        lay_front(front, self.packet, record);
+        lay_address(self.packet, record);
+        lay(MESSAGE_BYTES, [0; 8], record);
+        lay_request(sizes, self.packet, record);
+        lay(EXTENDED_REGISTER, [0; 8], record);
+    }
+
+    fn put_io(self, record: &mut [u8; RECORD_SIZE])
+        requires io { family_at self.packet.now ≡ Family.Io }
+        ensures { «record».new ≡ record_laid self.entry.packet.now «record».old }
+    {
+        let sizes = sizes_of(length_at(self.packet), self.packet);
+        let front = Front {
+            kind: kind_from(3, self.packet),
+            attributes: low_attributes_at(self.packet),
+            route: 0,
+            tag: tag_at(self.packet),
+            code: 0,
+        };
+        lay_front(front, self.packet, record);
+        lay_value(address32_at(self.packet), 0, record);
+        lay_request(sizes, self.packet, record);
+        lay(EXTENDED_REGISTER, [0; 8], record);
+    }
+
+    fn put_config(self, record: &mut [u8; RECORD_SIZE])
+        requires config { family_at self.packet.now ≡ Family.Config }
+        ensures { «record».new ≡ record_laid self.entry.packet.now «record».old }
+    {
+        let sizes = sizes_of(length_at(self.packet), self.packet);
+        let front = Front {
+            kind: config_kind(self.packet),
+            attributes: low_attributes_at(self.packet),
+            route: 1,
+            tag: tag_at(self.packet),
+            code: 0,
+        };
+        lay_front(front, self.packet, record);
+        lay_value(u64::from(route_id_at(self.packet)), 0, record);
+        lay_request(sizes, self.packet, record);
+        lay_registers(self.packet, record);
+    }
+
+    fn put_message(self, record: &mut [u8; RECORD_SIZE])
+        requires message { family_at self.packet.now ≡ Family.Message }
+        ensures { «record».new ≡ record_laid self.entry.packet.now «record».old }
+    {
+        let sizes = sizes_of(length_given(self.packet), self.packet);
+        let front = Front {
+            kind: kind_from(9, self.packet),
+            attributes: all_attributes_at(self.packet),
+            route: message_case(self.packet),
+            tag: tag_at(self.packet),
+            code: code_at(self.packet),
+        };
+        lay_front(front, self.packet, record);
+        lay_value(
+            message_value(self.packet),
+            whole_body_at(self.packet),
+            record,
+        );
+        lay_counted(sizes, 0, requester_at(self.packet), record);
+        lay(EXTENDED_REGISTER, [0; 8], record);
+    }
+
+    fn put_completion(self, record: &mut [u8; RECORD_SIZE])
+        requires completion { family_at self.packet.now ≡ Family.Completion }
+        ensures { «record».new ≡ record_laid self.entry.packet.now «record».old }
+    {
+        let sizes = sizes_of(length_given(self.packet), self.packet);
+        let front = Front {
+            kind: kind_from(11, self.packet),
+            attributes: all_attributes_at(self.packet),
+            route: 1,
+            tag: completion_tag_at(self.packet),
+            code: 0,
+        };
+        lay_front(front, self.packet, record);
+        lay_value(u64::from(route_id_at(self.packet)), 0, record);
+        let count = byte_count_field_at(self.packet);
+        lay_counted(sizes, count, completer_at(self.packet), record);
+        lay_status(self.packet, record);
+    }
+
+    pub(crate) fn put_record(self, f: Family, record: &mut [u8; RECORD_SIZE])
+        requires own_family { f ≡ family_at self.packet.now }
+        requires listed { is_unlisted f ≡ false }
+        ensures { «record».new ≡ record_laid self.entry.packet.now «record».old }
+    {
+        match f {
+            Family::Memory => self.put_memory(record),
+            Family::Io => self.put_io(record),
+            Family::Config => self.put_config(record),
+            Family::Message => self.put_message(record),
+            Family::Completion => self.put_completion(record),
+            Family::Unlisted => {}
+        }
     }
 }

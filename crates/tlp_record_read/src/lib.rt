@@ -25,6 +25,7 @@ pub fn read_record(settings: Settings, packet: &[u8], record: &mut [u8]) -> Resu
     let Some(front) = record.first_chunk_mut::<RECORD_SIZE>() else {
         return Err(Refusal::OutputTooShort);
     };
-    lay::put_record(family_by_type(byte_at(packet, 0)), packet, front);
+    let accepted = lay::Accepted { packet };
+    accepted.put_record(family_by_type(byte_at(packet, 0)), front);
     Ok(())
 }

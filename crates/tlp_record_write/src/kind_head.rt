@@ -27,7 +27,7 @@ use tlp_write::words::{
     Words, completion_words, config_words, io_words, memory_words, message_words,
 };
 
-#[derive(Clone, Copy)]
+#[derive(Clone, Copy, Debug, PartialEq, Eq)]
 pub struct KindHead {
     pub packet_type: PacketType,
     pub routing: u8,
@@ -90,9 +90,10 @@ fn completion_in(record: &[u8; RECORD_SIZE]) -> CompletionHeader
 fn memory_type(address: u64, record: &[u8; RECORD_SIZE]) -> PacketType
     ensures { result ≡ memory_type (byte «record».now kind_place) address }
 {
-    match record[KIND] {
-        1 => memory_form(address, PacketType::MRd32, PacketType::MRd64),
-        _ => memory_form(address, PacketType::MWr32, PacketType::MWr64),
+    if record[KIND] == 1 {
+        memory_form(address, PacketType::MRd32, PacketType::MRd64)
+    } else {
+        memory_form(address, PacketType::MWr32, PacketType::MWr64)
     }
 }
 
@@ -163,7 +164,7 @@ fn config_head(record: &[u8; RECORD_SIZE]) -> Option<KindHead>
     })
 }
 
-// A message's routing, by the case of its route.
+// A message's routing, by the case of its route. Routes are bytes, as record.txt gives them to C hosts.
 fn case_routing(record: &[u8; RECORD_SIZE]) -> u8
     ensures { result ≡ case_routing (byte «record».now route_place) }
 {
@@ -214,7 +215,7 @@ fn completion_head(record: &[u8; RECORD_SIZE]) -> Option<KindHead>
     })
 }
 
-// None where the record can't be written.
+// None where the record can't be written. Kinds are bytes, as record.txt gives them to C hosts.
 pub(crate) fn kind_head_in(record: &[u8; RECORD_SIZE]) -> Option<KindHead>
     requires { shared_fits «record».now ≡ true }
     ensures { JudgedHead result «record».now }

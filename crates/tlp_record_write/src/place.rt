@@ -1,5 +1,5 @@
-// Numbers at places of a record, the high byte first. Each is two of half its size, which a compiler makes one load.
-// One function for all sizes would answer a u64, cut at each use.
+// Numbers at places of a record, the high byte first. Each is two of half its size, which a compiler makes one load:
+// from_be_bytes would list up to eight bytes. One function for all sizes would answer a u64, cut at each use.
 ghost use Rattle.std.specs.Prelude.{◌≡◌, ◌+◌, ◌≤◌};
 ghost use Rattle.bits.specs.Word.{word};
 ghost use Rattle.tlp_record.specs.Places.{record_size};

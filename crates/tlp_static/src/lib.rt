@@ -1,5 +1,5 @@
-// The functions for C hosts under their exported names, as a static library: each answers as tlp_c's function of its name.
-// host/include/tollpebble.h declares them.
+// The functions for C hosts under their exported names, as a static library: each answers as tlp_c's function of its
+// name. host/include/tollpebble.h declares them.
 #![tactic(auto)]
 
 ghost use Rattle.std.specs.Prelude.{◌≡◌, length};

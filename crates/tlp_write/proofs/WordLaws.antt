@@ -32,13 +32,6 @@ pub word-law : (i a b m w : ℕ) → Fits w8 a → Fits w8 b → m ≡ a * 256 +
 word-law i a b m w h k e f =
     rw (f, e) (bytes-join 2 2 i (a * 256 + b) (pair_lt a b h.fits k.fits) ∙ rw (bytes_pair a b h.fits k.fits))
 
-pub four-law : (a b c d m n w : ℕ) → Fits w8 a → Fits w8 b → Fits w8 c → Fits w8 d → m ≡ a * 256 + b → n ≡ c * 256 + d → w ≡ m * 65536 + n
-    → bytes 4 w ≡ (a ∷ b ∷ c ∷ d ∷ [])
-four-law a b c d m n w ha hb hc hd em en ew =
-    rw (ew, em, en)
-    (bytes-join 2 2 (a * 256 + b) (c * 256 + d) (pair_lt c d hc.fits hd.fits)
-    ∙ append-same _ _ _ _ (bytes_pair a b ha.fits hb.fits) (bytes_pair c d hc.fits hd.fits))
-
 pub high-law : (a : ℕ) → bytes 8 (a % 2 ^ 32 * 2 ^ 32) ≡ padded 8 (bytes 4 a)
 high-law a =
     let e : bytes 8 (a % 2 ^ 32 * 2 ^ 32 + 0) ≡ bytes 4 (a % 2 ^ 32) ++ bytes 4 0 = bytes-join 4 4 (a % 2 ^ 32) 0 (zero-lt-suc _) in
@@ -51,25 +44,25 @@ module _ (v t : ℕ) where
       → bytes 4 v ++ bytes 8 t ≡ padded 12 (request_bytes q ++ xs)
   request-law q xs e h = append-same _ (request_bytes q) _ (padded 8 xs) e h
 
-  pub config-law : (q : ConfigRequest) (target w : ℕ) → bytes 4 v ≡ request_bytes q.request → bytes 8 t ≡ padded 8 (bytes 4 w)
+  pub config-law : (q : ConfigRequest) (target w x : ℕ) → bytes 4 v ≡ request_bytes q.request → bytes 8 t ≡ padded 8 (bytes 4 x) → x ≡ w
       → bytes 4 w ≡ bytes 2 target ++ ((q.extended_register % 16) ∷ (q.register % 64 * 4) ∷ [])
       → bytes 4 v ++ bytes 8 t ≡ padded 12 (config_bytes target q)
-  config-law q target w e h k =
+  config-law q target w x e h i k =
       let third : List ℕ = bytes 2 target ++ ((q.extended_register % 16) ∷ (q.register % 64 * 4) ∷ []) in
-      append-same _ (request_bytes q.request) _ (padded 8 third) e (h ∙ ap (λ (l : List ℕ). padded 8 l) k)
+      append-same _ (request_bytes q.request) _ (padded 8 third) e (h ∙ ap (λ (l : List ℕ). padded 8 l) (ap (bytes 4) i ∙ k))
 
   pub message-law : (m : MessageRequest) → bytes 4 v ≡ bytes 2 m.requester ++ (m.tag ∷ m.code ∷ [])
       → bytes 4 v ++ bytes 8 m.body ≡ message_bytes m
   message-law m e = append-same _ _ (bytes 8 m.body) _ e refl
 
-  pub completion-law : (c : CompletionHeader) (requester w f : ℕ) → f ≡ flag c.byte_count_modified
+  pub completion-law : (c : CompletionHeader) (requester w x f : ℕ) → f ≡ flag c.byte_count_modified
       → bytes 4 v ≡ bytes 2 c.completer ++ ((c.status % 8 * 32 + f * 16 + c.byte_count / 256 % 16) ∷ (c.byte_count % 256) ∷ [])
-      → bytes 8 t ≡ padded 8 (bytes 4 w)
+      → bytes 8 t ≡ padded 8 (bytes 4 x) → x ≡ w
       → bytes 4 w ≡ bytes 2 requester ++ (c.tag ∷ (c.lower_address % 128) ∷ [])
       → bytes 4 v ++ bytes 8 t ≡ padded 12 (completion_bytes requester c)
-  completion-law c requester w f g e h k =
+  completion-law c requester w x f g e h i k =
       let third : List ℕ = bytes 2 requester ++ (c.tag ∷ (c.lower_address % 128) ∷ []) in
-      append-same _ _ _ (padded 8 third) (rw g at e) (h ∙ ap (λ (l : List ℕ). padded 8 l) k)
+      append-same _ _ _ (padded 8 third) (rw g at e) (h ∙ ap (λ (l : List ℕ). padded 8 l) (ap (bytes 4) i ∙ k))
 
 -- ---- bytes 0 to 3
 

@@ -5,13 +5,12 @@ ghost use Rattle.tlp_write.specs.Layout.{routing, routing_in};
 ghost use Rattle.tlp_write.specs.Inner.Head.{listed_fault, IsHead, head_front};
 
 use crate::words::{Words, own_words};
-use bits::word::{join16, join32};
 use tlp::content::fault_of;
 use tlp::packet::{Implicit, Kind, Packet, Route, access_of, type_of};
 use tlp::packet_type::{PacketType, family_of, first_byte};
 use tlp::refusal::Refusal;
 
-#[derive(Clone, Copy)]
+#[derive(Clone, Copy, Debug, PartialEq, Eq)]
 pub struct Head {
     pub packet_type: PacketType,
     // What byte 0 has beside the type: a message's routing.
@@ -22,6 +21,7 @@ pub struct Head {
     pub traffic_class: u8,
     pub attributes: u8,
     pub poisoned: bool,
+    // As in the packet: no Option, since the digest is given where TD is clear, too.
     pub has_digest: bool,
     pub digest: u32,
     pub length: u32,
@@ -97,7 +97,7 @@ pub(crate) fn head_of(p: Packet) -> Head
 fn word_of_bytes(a: u8, b: u8, c: u8, d: u8) -> u32
     ensures { bytes 4 result ≡ (a ∷ b ∷ c ∷ d ∷ []) }
 {
-    join32(join16(a, b), join16(c, d))
+    u32::from_be_bytes([a, b, c, d])
 }
 
 // Bytes 0 to 3.

@@ -5,13 +5,12 @@ pub mod head;
 mod put;
 pub mod words;
 
-ghost use Rattle.std.specs.Prelude.{◌≡◌, ◌++◌, ◌+◌, ◌^◌, ◌≤◌, ◌<◌, eqb, length};
+ghost use Rattle.std.specs.Prelude.{◌≡◌, ◌++◌, ◌+◌, ◌≤◌, eqb, length};
 ghost use Rattle.bits.specs.Choice.{pick};
 ghost use Rattle.bits.specs.Put.{put, over_front};
 ghost use Rattle.tlp.specs.Rows.{first};
 ghost use Rattle.tlp.specs.Refusals.{checked};
 ghost use Rattle.tlp.specs.PacketTypes.{header_dw};
-ghost use Rattle.tlp.specs.Sizes.{digest_bytes};
 ghost use Rattle.tlp_write.specs.Write.{field_rows, write_packet, write_out};
 ghost use Rattle.tlp_write.specs.Inner.Head.{head_bytes, head_digest, whole_size, judged_answer, judged_out, head_answer, head_out};
 ghost use Rattle.tlp_write.specs.Inner.Lay.{lay_answer, lay_out};

@@ -12,7 +12,7 @@ use tlp::packet::{
 
 // Bytes 4 to 7, and bytes 8 to 15; a header of three doublewords ends after the high half of these, and the low half is
 // 0.
-#[derive(Clone, Copy)]
+#[derive(Clone, Copy, Debug, PartialEq, Eq)]
 pub struct Words {
     pub second: u32,
     pub tail: u64,
@@ -54,7 +54,7 @@ pub fn memory_words(address: u64, q: Request) -> Words
     }
 }
 
-// Those of an I/O request: its address has four bytes.
+// Those of an I/O request. Beside memory_words: an I/O address never has eight bytes.
 pub fn io_words(address: u64, q: Request) -> Words
     ensures { word_bytes result ≡ padded 12 (request_bytes q ++ bytes 4 address) }
 {
@@ -71,7 +71,7 @@ pub fn config_words(target: u16, q: ConfigRequest) -> Words
     let third = word_of(target, q.extended_register % 16, q.register % 64 * 4);
     Words {
         second: request_word(q.request),
-        tail: high_half(third as u64),
+        tail: high_half(u64::from(third)),
     }
 }
 
@@ -96,7 +96,7 @@ pub fn completion_words(requester: u16, c: CompletionHeader) -> Words
     let third = word_of(requester, c.tag, c.lower_address % 128);
     Words {
         second: word_of(c.completer, b6, low),
-        tail: high_half(third as u64),
+        tail: high_half(u64::from(third)),
     }
 }
 

@@ -16,8 +16,8 @@ returns-in_default-clause-value c = read-short-answer _ _ c.in_ok-check.ensures 
 pub put_record-requires-clause-own_family : goal.put_record-requires-clause-own_family
 put_record-requires-clause-own_family c = search (read-family, c.in_ok-check.ensures)
 
-pub put_record-requires-clause-header_there : goal.put_record-requires-clause-header_there
-put_record-requires-clause-header_there c = read-room _ _ c.in_ok-check.ensures
+pub invariant_of-accepted : goal.invariant_of-accepted
+invariant_of-accepted c = record { header_there = read-room _ _ c.in_ok-check.ensures }
 
 pub returns-clause-value : goal.returns-clause-value
 returns-clause-value c = read-laid-answer _ _ c.in_ok-check.ensures _ c.in-Some.ensures.cases.enough

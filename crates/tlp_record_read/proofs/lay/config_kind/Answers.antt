@@ -3,7 +3,7 @@ use native.Mathlib.Omega.{arith}
 use Rattle.tlp_record_read.proofs.lay.config_kind.Goals as goal
 
 pub kind_from-requires : goal.kind_from-requires
-kind_from-requires c = record { base_bound = omega arith; listed = search family-listed }
+kind_from-requires c = record { room = omega arith; listed = search family-listed }
 
 pub returns : goal.returns
 returns c = search config-kind-law
