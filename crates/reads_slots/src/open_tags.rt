@@ -47,6 +47,8 @@ pub fn window_taken(q: ReadRequest, limit: usize, opened: &TagSet, words: &Words
     any_open(limit, opened, words, |r| shares_byte(q, r.request))
 }
 
+// A sum has loops of its own: a closure that adds up leaves the proof without the sum.
+//
 // The doublewords owed to the reads of a word w of the set, of which from is the first tag; rest holds the tags that
 // are still to be looked at.
 fn word_owed(w: u64, words: &Words, from: usize) -> u64
