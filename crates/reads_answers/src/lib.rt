@@ -18,7 +18,7 @@ use tlp::refusal::Refusal;
 
 // What take answers: Failed with the status, Unread with the packet reader's own refusal, Refused with one of the
 // table's.
-#[derive(Clone, Copy)]
+#[derive(Clone, Copy, Debug, PartialEq, Eq)]
 pub enum TakeAnswer {
     More,
     Done,

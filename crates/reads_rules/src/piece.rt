@@ -7,7 +7,7 @@ use tlp::packet_type::has_data;
 
 // What a packet says as a completion; with_data tells CplD from Cpl. A Cpl has length 0, a number that the rules ask
 // about, so the two are no Option.
-#[derive(Clone, Copy)]
+#[derive(Clone, Copy, Debug, PartialEq, Eq)]
 pub struct Piece {
     pub requester: u16,
     pub traffic_class: u8,
