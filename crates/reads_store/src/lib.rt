@@ -115,7 +115,7 @@ fn store_runs(a: Access, k: u64, n: usize, payload: &[u8], part: &mut [u8])
 pub fn store_enabled(a: Access, p: u32, payload: &[u8], part: &mut [u8])
     ensures { part.new ≡ merged (enabled a) (4 * p) payload.now part.old }
 {
-    let k = 4 * p as u64;
+    let k = 4 * u64::from(p);
     let n = payload.len().min(part.len());
     if all_enabled(a, k, n) {
         copy_front(n, payload, part);
@@ -129,7 +129,7 @@ pub fn store_enabled(a: Access, p: u32, payload: &[u8], part: &mut [u8])
 pub fn store_piece(q: ReadRequest, p: u32, payload: &[u8], store: &mut [u8])
     ensures { store.new ≡ stored q p payload.now store.old }
 {
-    let skipped = 4 * p as u64;
+    let skipped = 4 * u64::from(p);
     let room = store.len() as u64;
     if room < q.start || room - q.start < skipped {
         return;
