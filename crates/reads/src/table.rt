@@ -147,9 +147,7 @@ impl Table {
         ensures { result ≡ withdraw_call self tag }
     {
         let o = self.origin;
-        let mut opened = self.opened;
-        let answer = withdraw_lent(o, &mut opened, &mut self.words, tag);
-        self.opened = opened;
+        let answer = withdraw_lent(o, &mut self.opened, &mut self.words, tag);
         Withdrawal {
             table: self,
             answer,
@@ -160,8 +158,6 @@ impl Table {
     pub fn owed(self) -> Result<u64, Refusal>
         ensures { result ≡ owed_call self }
     {
-        let o = self.origin;
-        let opened = self.opened;
-        owed_lent(o, &opened, &self.words)
+        owed_lent(self.origin, &self.opened, &self.words)
     }
 }

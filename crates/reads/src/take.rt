@@ -40,7 +40,7 @@ fn advance(x: Option<Read>, n: u32) -> Option<Read>
     }
 }
 
-// What bytes do: the answer, and the completion's length where it is taken.
+// What bytes do: the answer, and the length of the completion that was read, else 0; More alone looks at it.
 #[derive(Clone, Copy)]
 pub(crate) struct Outcome {
     pub answer: TakeAnswer,
@@ -186,9 +186,7 @@ impl Table {
         ensures store_after { store.new ≡ take_store self bytes.now store.old }
     {
         let o = self.origin;
-        let mut opened = self.opened;
-        let answer = take_lent(o, &mut opened, &mut self.words, bytes, store);
-        self.opened = opened;
+        let answer = take_lent(o, &mut self.opened, &mut self.words, bytes, store);
         Taking {
             table: self,
             answer,
