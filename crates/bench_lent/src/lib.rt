@@ -5,7 +5,6 @@
 
 ghost use Rattle.std.specs.Prelude.{◌≡◌, length};
 ghost use Rattle.reads.specs.Answers.{open_number, withdraw_number};
-ghost use Rattle.tlp.specs.Refusals.{number_in};
 ghost use Rattle.reads.specs.OpenCall.{open_call, open_out};
 ghost use Rattle.reads.specs.TakeCall.{take_call, take_store};
 ghost use Rattle.reads.specs.OtherCalls.{withdraw_call};
@@ -18,7 +17,7 @@ use reads_answers::TakeAnswer;
 use reads_rules::origin::Origin;
 use reads_words::tag_set::TagSet;
 use reads_words::words::{Words, read_of};
-use tlp::refusal::Refusal;
+use tlp::refusal::number_in;
 use tlp::settings::Settings;
 
 // What a table is made from.
@@ -32,16 +31,6 @@ fn origin_in(from: &[u32; 4]) -> Origin
             rcb: from[2],
         },
         requester: (from[3] % 65536) as u16,
-    }
-}
-
-// The number of an answer; 0 for accepted.
-fn number_in<T: Copy>(answer: Result<T, Refusal>) -> u32
-    ensures { result ≡ number_in answer }
-{
-    match answer {
-        Ok(_) => 0,
-        Err(refusal) => refusal.number(),
     }
 }
 

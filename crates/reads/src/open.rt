@@ -110,9 +110,7 @@ impl Table {
         ensures out_after { out.new ≡ open_out self q tag (length store.now) out.old }
     {
         let o = self.origin;
-        let mut opened = self.opened;
-        let answer = open_lent(o, &mut opened, &mut self.words, q, tag, store, out);
-        self.opened = opened;
+        let answer = open_lent(o, &mut self.opened, &mut self.words, q, tag, store, out);
         Opening {
             table: self,
             answer,

@@ -19,7 +19,8 @@ use tlp::settings::{Settings, settings_listed};
 
 // Fields are public, so that a table that no call reaches can be made and tried. A table is given to nobody but its
 // methods: who is given one copies it. Each of them is a thin call of a core that is given the origin and lent set
-// and words.
+// and words. These three are no struct of references: clauses are over each one's old and new, and a C host lends
+// them as arrays.
 #[derive(Clone, Copy)]
 pub struct Table {
     pub origin: Origin,
@@ -146,10 +147,7 @@ impl Table {
     pub fn withdraw(mut self, tag: u32) -> Withdrawal
         ensures { result ≡ withdraw_call self tag }
     {
-        let o = self.origin;
-        let mut opened = self.opened;
-        let answer = withdraw_lent(o, &mut opened, &mut self.words, tag);
-        self.opened = opened;
+        let answer = withdraw_lent(self.origin, &mut self.opened, &mut self.words, tag);
         Withdrawal {
             table: self,
             answer,
@@ -160,8 +158,6 @@ impl Table {
     pub fn owed(self) -> Result<u64, Refusal>
         ensures { result ≡ owed_call self }
     {
-        let o = self.origin;
-        let opened = self.opened;
-        owed_lent(o, &opened, &self.words)
+        owed_lent(self.origin, &self.opened, &self.words)
     }
 }

@@ -40,7 +40,7 @@ fn advance(x: Option<Read>, n: u32) -> Option<Read>
     }
 }
 
-// What bytes do: the answer, and the completion's length where it is taken.
+// What bytes do: the answer, and the length of the completion that was read, else 0; More alone looks at it.
 #[derive(Clone, Copy)]
 pub(crate) struct Outcome {
     pub answer: TakeAnswer,
@@ -168,13 +168,13 @@ pub fn take_lent(
         ≡ take_store (table_of o opened.old words.old)
         bytes.now store.old }
 {
-    let tag = byte_at(bytes, 10);
-    let done = outcome_of(o, opened, words, tag as u32, bytes, store);
+    let tag = u32::from(byte_at(bytes, 10));
+    let done = outcome_of(o, opened, words, tag, bytes, store);
     let answer = done.answer;
     if !takes(answer) {
         return answer;
     }
-    let x = record_given(answer, state_at(o, opened, words, tag as u32), done.length);
+    let x = record_given(answer, state_at(o, opened, words, tag), done.length);
     put_state(opened, words, tag as usize, x);
     answer
 }
@@ -185,10 +185,7 @@ impl Table {
         ensures value { result ≡ take_call self bytes.now (length store.old) }
         ensures store_after { store.new ≡ take_store self bytes.now store.old }
     {
-        let o = self.origin;
-        let mut opened = self.opened;
-        let answer = take_lent(o, &mut opened, &mut self.words, bytes, store);
-        self.opened = opened;
+        let answer = take_lent(self.origin, &mut self.opened, &mut self.words, bytes, store);
         Taking {
             table: self,
             answer,

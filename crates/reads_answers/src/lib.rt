@@ -17,8 +17,8 @@ use reads_rules::window::holds_window;
 use tlp::refusal::Refusal;
 
 // What take answers: Failed with the status, Unread with the packet reader's own refusal, Refused with one of the
-// table's.
-#[derive(Clone, Copy)]
+// table's. An enum of its own, no Result: four of its cases say what was taken.
+#[derive(Clone, Copy, Debug, PartialEq, Eq)]
 pub enum TakeAnswer {
     More,
     Done,

@@ -19,7 +19,7 @@ pub fn open(
     ensures { OpenLeaves t.old q tag store.now out.old result
         t.new out.new }
 {
-    let n = Table::open(*t, q, tag, store, out);
+    let n = t.open(q, tag, store, out);
     *t = n.table;
     n.answer
 }
@@ -29,7 +29,7 @@ pub fn take(t: &mut Table, bytes: &[u8], store: &mut [u8]) -> TakeAnswer
     ensures { TakeLeaves t.old bytes.now store.old result
         t.new store.new }
 {
-    let n = Table::take(*t, bytes, store);
+    let n = t.take(bytes, store);
     *t = n.table;
     n.answer
 }
@@ -38,7 +38,7 @@ pub fn take(t: &mut Table, bytes: &[u8], store: &mut [u8]) -> TakeAnswer
 pub fn withdraw(t: &mut Table, tag: u32) -> Result<(), Refusal>
     ensures { WithdrawLeaves t.old tag result t.new }
 {
-    let n = Table::withdraw(*t, tag);
+    let n = t.withdraw(tag);
     *t = n.table;
     n.answer
 }
@@ -47,5 +47,5 @@ pub fn withdraw(t: &mut Table, tag: u32) -> Result<(), Refusal>
 pub fn owed(t: &Table) -> Result<u64, Refusal>
     ensures { OwedLeaves t.now result }
 {
-    Table::owed(*t)
+    t.owed()
 }

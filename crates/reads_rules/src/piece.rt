@@ -5,8 +5,9 @@ ghost use Rattle.reads_rules.specs.Pieces.{no_header, header_in, piece_of};
 use tlp::packet::{CompletionHeader, Kind, Packet, access_of, id_of, type_of};
 use tlp::packet_type::has_data;
 
-// What a packet says as a completion; with_data tells CplD from Cpl, and a Cpl has length 0.
-#[derive(Clone, Copy)]
+// What a packet says as a completion; with_data tells CplD from Cpl. A Cpl has length 0, a number that the rules ask
+// about, so the two are no Option.
+#[derive(Clone, Copy, Debug, PartialEq, Eq)]
 pub struct Piece {
     pub requester: u16,
     pub traffic_class: u8,

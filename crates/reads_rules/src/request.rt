@@ -1,4 +1,4 @@
-// A memory read as open is asked for it, and the numbers that the writer gives for its header.
+// A memory read as open is asked for it, and the refusals that the writer gives for its header.
 ghost use Rattle.std.specs.Prelude.{◌≡◌};
 ghost use Rattle.tlp.specs.Rows.{first};
 ghost use Rattle.tlp.specs.Refusals.{checked};
@@ -13,7 +13,7 @@ use tlp_writable::outside_of;
 
 // What open gets of a read: address, length and enables, traffic class, attributes, and where its window starts in
 // the store.
-#[derive(Clone, Copy)]
+#[derive(Clone, Copy, Debug, PartialEq, Eq)]
 pub struct ReadRequest {
     pub access: Access,
     pub traffic_class: u8,

@@ -94,11 +94,11 @@ module _ (rest : ℕ) (words : List ℕ) (from : ℕ) (h : rest ≡ 0 → ⊥) (
         omega arith
 
     module _ (r : Read) (f : r ≡ read_at words (from + b)) where
-      module _ (n : ℕ) (g : n ≡ owed_of r) (w sum : ℕ) (i : sum + sum_below 64 (owed_in_word rest words from) ≡ sum_below 64 (owed_in_word w words from)) where
+      module _ (m n : ℕ) (d : m ≡ owed_of r) (q : n ≡ m) (w sum : ℕ) (i : sum + sum_below 64 (owed_in_word rest words from) ≡ sum_below 64 (owed_in_word w words from)) where
         out-owed : n + sum_below 64 (owed_in_word (without_lowest rest) words from) ≡ sum_below 64 (owed_in_word rest words from)
         unfolding owed_in_word
         out-owed =
-            let p : n ≡ owed_in (record_in rest words from (clear_below 64 rest)) = g ∙ (ap owed_of (f ∙ ap (λ (x : ℕ). read_at words (from + x)) e) ∙ sym (ap owed_in open-lowest)) in
+            let p : n ≡ owed_in (record_in rest words from (clear_below 64 rest)) = (q ∙ d) ∙ (ap owed_of (f ∙ ap (λ (x : ℕ). read_at words (from + x)) e) ∙ sym (ap owed_in open-lowest)) in
             rw p
             (sum-out (owed_in_word rest words from) (owed_in_word (without_lowest rest) words from) 64 (clear_below 64 rest) (lowest-below rest h l) (ap owed_in freed-lowest)
             (λ u k. ap owed_in (kept-other u k)))
@@ -111,7 +111,7 @@ module _ (rest : ℕ) (words : List ℕ) (from : ℕ) (h : rest ≡ 0 → ⊥) (
         pub owed-fits : sum + n < 18446744073709551616
         owed-fits =
             let o = out-owed in
-            let m = word-most w words from in
+            let most = word-most w words from in
             omega arith
 
 pub ruleset turn-laws = (owed-end, rest-less, rest-fits, tag_fits, owed-turn, owed-fits)

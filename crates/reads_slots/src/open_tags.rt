@@ -15,8 +15,8 @@ use reads_words::tag_set::{TagSet, without_lowest, word_below};
 use reads_words::words::{Words, read_at};
 use tlp::settings::Settings;
 
-// Whether a test holds of an open read below a limit, tags ascending, up to the first of which it does; word j of the
-// set has the tags from 64 * j on, and rest those of them that are still to be looked at.
+// Whether a test holds of an open read below a limit. Tags are looked at ascending, and none after the first that it
+// holds of. Word j of the set has the tags from 64 * j on; rest is what is left of it, so that no index is counted.
 fn any_open<F: Fn(Read) -> bool>(limit: usize, opened: &TagSet, words: &Words, test: F) -> bool
     requires { F.IsAlwaysCallable test }
     ensures { AnyOpen (F.post test) limit opened.now words.now result }
@@ -47,8 +47,9 @@ pub fn window_taken(q: ReadRequest, limit: usize, opened: &TagSet, words: &Words
     any_open(limit, opened, words, |r| shares_byte(q, r.request))
 }
 
-// The doublewords owed to the reads of a word w of the set, of which from is the first tag; rest holds the tags that
-// are still to be looked at.
+// A sum has loops of its own: a closure that adds up leaves the proof without the sum.
+//
+// The doublewords owed to the reads of a word w of the set, of which from is the first tag; rest is as in any_open.
 fn word_owed(w: u64, words: &Words, from: usize) -> u64
     requires { from ≤ capacity }
     ensures { result ≡ sum_below 64 (owed_in_word w words.now from) }
@@ -56,7 +57,7 @@ fn word_owed(w: u64, words: &Words, from: usize) -> u64
     let mut sum: u64 = 0;
     let mut rest = w;
     while rest != 0 {
-        sum += owed_of(read_at(words, from + lowest_bit(rest))) as u64;
+        sum += u64::from(owed_of(read_at(words, from + lowest_bit(rest))));
         rest = without_lowest(rest);
     }
     sum

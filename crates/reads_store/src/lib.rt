@@ -10,13 +10,6 @@ ghost use Rattle.reads_store.specs.Stores.{stored};
 use byte_enables::{Access, enabled_at};
 use reads_rules::request::ReadRequest;
 
-// The payload's byte where it is enabled, else the one that stands there.
-fn laid_byte(is_enabled: bool, sent: u8, kept: u8) -> u8
-    ensures { result ≡ pick is_enabled sent kept }
-{
-    if is_enabled { sent } else { kept }
-}
-
 // Lays the enabled bytes of a payload, whose first byte is the read's byte k, over the part that is lent, with a test
 // for each byte.
 fn store_tested(a: Access, k: u64, payload: &[u8], part: &mut [u8])
@@ -25,7 +18,9 @@ fn store_tested(a: Access, k: u64, payload: &[u8], part: &mut [u8])
 {
     let n = payload.len().min(part.len());
     for i in 0..n {
-        part[i] = laid_byte(enabled_at(a, k + i as u64), payload[i], part[i]);
+        if enabled_at(a, k + i as u64) {
+            part[i] = payload[i];
+        }
     }
 }
 
@@ -69,8 +64,8 @@ fn enabled_run(a: Access, k: u64, n: usize) -> usize
 // What store_tested does, where the first run bytes are all enabled: one copy of these is many times faster than a
 // test of each.
 fn store_run_and_rest(a: Access, k: u64, run: usize, payload: &[u8], part: &mut [u8])
-    requires fact { (run ≤ length payload.now) × (run ≤ length part.old) × (k + length payload.now < 2 ^ 64) }
-    requires by_index { (i : ℕ) → i < run → enabled a (k + i) ≡ true }
+    requires bounds { (run ≤ length payload.now) × (run ≤ length part.old) × (k + length payload.now < 2 ^ 64) }
+    requires run_enabled { (i : ℕ) → i < run → enabled a (k + i) ≡ true }
     ensures { part.new ≡ merged (enabled a) k payload.now part.old }
 {
     part[..run].copy_from_slice(&payload[..run]);
@@ -120,7 +115,7 @@ fn store_runs(a: Access, k: u64, n: usize, payload: &[u8], part: &mut [u8])
 pub fn store_enabled(a: Access, p: u32, payload: &[u8], part: &mut [u8])
     ensures { part.new ≡ merged (enabled a) (4 * p) payload.now part.old }
 {
-    let k = 4 * p as u64;
+    let k = 4 * u64::from(p);
     let n = payload.len().min(part.len());
     if all_enabled(a, k, n) {
         copy_front(n, payload, part);
@@ -134,7 +129,7 @@ pub fn store_enabled(a: Access, p: u32, payload: &[u8], part: &mut [u8])
 pub fn store_piece(q: ReadRequest, p: u32, payload: &[u8], store: &mut [u8])
     ensures { store.new ≡ stored q p payload.now store.old }
 {
-    let skipped = 4 * p as u64;
+    let skipped = 4 * u64::from(p);
     let room = store.len() as u64;
     if room < q.start || room - q.start < skipped {
         return;

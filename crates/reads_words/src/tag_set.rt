@@ -53,7 +53,7 @@ pub fn with_tag(tags: &mut TagSet, tag: usize)
     }
 }
 
-// Takes a tag out of the set.
+// Takes a tag out of the set. It and with_tag differ in one call: a closure for that would be no shorter.
 #[tactic(auto, unfolding(crate::specs::TagSets::changed))]
 pub fn without_tag(tags: &mut TagSet, tag: usize)
     ensures { tags.new ≡ without_tag tags.old tag }

@@ -3,6 +3,7 @@ ghost use Rattle.std.specs.Prelude.{◌≡◌};
 ghost use Rattle.reads_words.specs.Words.{sizes_of, marks_of, read_of, read_at, put_words, put_read, clear_read};
 
 use crate::CAPACITY;
+use bits::word::join64;
 use byte_enables::Access;
 use reads_rules::read::Read;
 use reads_rules::request::ReadRequest;
@@ -14,14 +15,14 @@ pub type Words = [u64; 4 * CAPACITY];
 fn sizes_of(length: u32, taken: u32) -> u64
     ensures { result ≡ sizes_of length taken }
 {
-    taken as u64 * 4294967296 + length as u64
+    join64(taken, length)
 }
 
 // The fourth word of a read.
 fn marks_of(first: u8, last: u8, traffic_class: u8, attributes: u8) -> u64
     ensures { result ≡ marks_of first last traffic_class attributes }
 {
-    ((attributes as u64 * 256 + traffic_class as u64) * 256 + last as u64) * 256 + first as u64
+    u64::from(u32::from_be_bytes([attributes, traffic_class, last, first]))
 }
 
 // A read from its four words.

@@ -11,6 +11,7 @@ use lib.Dec.{leb}
 use lib.ListN.{length, take, drop, get_or, set, drop_of_length-le}
 use lib.Seq.{take_all}
 use borrow.Author.Tests.{leb-true, leb-false}
+use Rattle.std.proofs.lemmas.List.{set-get_or}
 use Rattle.bits.specs.Choice.{pick}
 use Rattle.scans.specs.Merges.{merged}
 use Rattle.scans.proofs.MergeLaws.{merged-nil, merged-split}
@@ -38,12 +39,15 @@ module _ (f : ℕ → Bool) where
   keeps k (d ∷ ds) [] (suc i) = refl
   keeps k (d ∷ ds) (x ∷ xs) (suc i) = keeps (suc k) ds xs i
 
-  -- one element more
-  pub merge-more : (k : ℕ) (ds xs part : List ℕ) (i : ℕ) → part ≡ merged f k (take i ds) xs → i < length ds → i < length part → length part ≡ length xs
-      → (r : Bool) (v : ℕ) → r ≡ f (k + i) → v ≡ pick r (get_or ds i 0) (get_or part i 0) → set part i v ≡ merged f k (take (i + 1) ds) xs
-  merge-more k ds xs part i inv h l z r v e q =
-      let w : get_or part i 0 ≡ get_or xs i 0 = rw inv (keeps k ds xs i) in
-      rw (add-one, step k ds xs i h (omega arith), ← e, q, w, inv)
+  module _ (k : ℕ) (ds xs part : List ℕ) (i : ℕ) (inv : part ≡ merged f k (take i ds) xs) (h : i < length ds) (l : i < length part) (z : length part ≡ length xs)
+    (r : Bool) (e : r ≡ f (k + i)) where
+    -- one element more, that is laid
+    pub merge-laid : r ≡ true → set part i (get_or ds i 0) ≡ merged f k (take (i + 1) ds) xs
+    merge-laid t = rw (add-one, step k ds xs i h (omega arith), ← e, t, inv)
+
+    -- or left
+    pub merge-left : r ≡ false → part ≡ merged f k (take (i + 1) ds) xs
+    merge-left t = rw (add-one, step k ds xs i h (omega arith), ← e, t, ← keeps k ds xs i, set-get_or, inv)
 
   cut : (k n : ℕ) (ds xs : List ℕ) → length xs ≤ n → merged f k (take n ds) xs ≡ merged f k ds xs
   cut k n ds xs h = rw (take_all n xs h, drop_of_length-le xs {i = n} h, merged-nil, append-nil) at (merged-split f k n ds xs)
@@ -65,4 +69,4 @@ module _ (f : ℕ → Bool) where
   merged-part k n ds xs (inl h) = rw (take_all n ds h, drop_of_length-le ds {i = n} h) at (merged-split f k n ds xs)
   merged-part k n ds xs (inr h) = rw (take_all n xs h, drop_of_length-le xs {i = n} h) (append-nil (merged f k ds xs))
 
-pub ruleset merge-steps = (merged-none, merge-more, merge-ends)
+pub ruleset merge-steps = (merged-none, merge-laid, merge-left, merge-ends)

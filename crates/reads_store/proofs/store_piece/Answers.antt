@@ -3,7 +3,7 @@ use borrow.Author.Rules.{rules}
 use Rattle.reads_store.proofs.store_piece.Goals as goal
 
 pub returns-then-room-q : goal.returns-then-room-q
-returns-then-room-q c = search (stored-laws, rules)
+returns-then-room-q c = rw (← c.from-skipped.ensures) (search (stored-laws, rules))
 
 pub returns : goal.returns
-returns c = search (stored-laws, rules)
+returns c = rw (← c.from-skipped.ensures) (search (stored-laws, rules))

@@ -19,9 +19,6 @@ read_at-requires c = search (turn-laws, rules)
 pub owed_of-requires : goal.owed_of-requires
 owed_of-requires c = search (turn-laws, rules)
 
-pub overflow_cast-sum : goal.overflow_cast-sum
-overflow_cast-sum c = search (turn-laws, rules)
-
 pub overflow_add-sum : goal.overflow_add-sum
 overflow_add-sum c = search (turn-laws, rules)
 
