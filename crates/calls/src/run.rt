@@ -1,81 +1,64 @@
-// One line: its first letters say which form it can have.
+// One line: its first letters say which form it can have. A match, no table of closures: each form has its own
+// arguments.
 use crate::slots::{run_force, run_record, run_settings};
 use crate::store::{run_bytes, run_fill, run_store, run_sum};
 use crate::table::{run_new, run_open, run_owed, run_take, run_withdraw};
 use bits::word::byte_at;
-use calls_printed::print::print_bad;
 use reads::table::Table;
 use text::words::part;
 
 // Words that begin with o, by their second letter.
-fn run_o(line: &[u8], t: Table, store: &[u8]) -> Table {
+fn run_o(line: &[u8], t: Table, store: &[u8]) -> Option<Table> {
     match byte_at(line, 1) {
         b'p' => run_open(line, t, store),
-        b'w' => {
-            run_owed(line, t);
-            t
-        }
-        _ => {
-            print_bad();
-            t
-        }
+        b'w' => run_owed(line, t),
+        _ => None,
     }
 }
 
-fn run_f(line: &[u8], t: Table, store: &mut [u8]) -> Table {
+fn run_f(line: &[u8], t: Table, store: &mut [u8]) -> Option<Table> {
     match byte_at(line, 1) {
         b'o' => run_force(line, t),
         b'i' => {
-            run_fill(line, store);
-            t
+            run_fill(line, store)?;
+            Some(t)
         }
-        _ => {
-            print_bad();
-            t
-        }
+        _ => None,
     }
 }
 
-fn run_s(line: &[u8], t: Table, lent: &mut usize, store: &mut [u8]) -> Table {
+fn run_s(line: &[u8], t: Table, lent: &mut usize, store: &mut [u8]) -> Option<Table> {
     match byte_at(line, 1) {
         b'e' => run_settings(line, t),
         b't' => {
-            *lent = run_store(line, *lent, store);
-            t
+            *lent = run_store(line, store)?;
+            Some(t)
         }
         b'u' => {
-            run_sum(line, part(store, 0, *lent));
-            t
+            run_sum(line, part(store, 0, *lent))?;
+            Some(t)
         }
-        _ => {
-            print_bad();
-            t
-        }
+        _ => None,
     }
 }
 
 // Words that no other begins like.
-fn run_other(line: &[u8], t: Table, lent: usize, store: &mut [u8]) -> Table {
+fn run_other(line: &[u8], t: Table, lent: usize, store: &mut [u8]) -> Option<Table> {
     match byte_at(line, 0) {
         b'w' => run_withdraw(line, t),
-        b'n' => run_new(line, t, store),
+        b'n' => run_new(line, store),
         b'b' => {
-            run_bytes(line, part(store, 0, lent));
-            t
+            run_bytes(line, part(store, 0, lent))?;
+            Some(t)
         }
-        b'r' => {
-            run_record(line, t);
-            t
-        }
-        _ => {
-            print_bad();
-            t
-        }
+        b'r' => run_record(line, t),
+        _ => None,
     }
 }
 
-// The table after a line. So many bytes of the store are lent; only a line about the store changes how many.
-pub(crate) fn run(line: &[u8], t: Table, lent: &mut usize, store: &mut [u8]) -> Table {
+// The table after a line, None for a bad one: table, store and lent are then as they were.
+// So many bytes of the store are lent; only a line about the store changes how many.
+pub(crate) fn run(line: &[u8], t: Table, lent: &mut usize, store: &mut [u8]) -> Option<Table> {
     let n = store.len().min(*lent);
     match byte_at(line, 0) {
         b't' => run_take(line, t, &mut store[..n]),

@@ -6,7 +6,6 @@ use crate::run::run;
 use calls_printed::LINE_MOST;
 use calls_printed::print::print_bad;
 use reads::table::Table;
-use text::lines::line_end;
 
 // The index after the last newline: what follows it has no end yet.
 pub(crate) fn lines_end(text: &[u8]) -> usize
@@ -18,29 +17,34 @@ pub(crate) fn lines_end(text: &[u8]) -> usize
     }
 }
 
-// A line without its newline.
+// The table after a line, which is given without its newline.
 fn answer_line(line: &[u8], t: Table, lent: &mut usize, store: &mut Space) -> Table {
-    if LINE_MOST <= line.len() {
-        print_bad();
-        return t;
+    let answered = if line.len() < LINE_MOST {
+        run(line, t, lent, store)
+    } else {
+        None
+    };
+    match answered {
+        Some(next) => next,
+        None => {
+            print_bad();
+            t
+        }
     }
-    run(line, t, lent, store)
 }
 
-// The table after the lines of a text.
+// The table after the lines of a text that ends with a newline, or is empty and has none.
 pub(crate) fn answer_lines(
     text: &[u8],
     first: Table,
     lent: &mut usize,
     store: &mut Space,
 ) -> Table {
-    // The lines before index at are answered, and t is the table after them; at goes from line to line.
     let mut t = first;
-    let mut at: usize = 0;
-    while at < text.len() {
-        let end = line_end(text, at);
-        t = answer_line(&text[at..end], t, lent, store);
-        at = end + 1;
+    if let Some(lines) = text.strip_suffix(b"\n") {
+        for line in lines.split(|b| *b == b'\n') {
+            t = answer_line(line, t, lent, store);
+        }
     }
     t
 }

@@ -1,7 +1,7 @@
-// Lines that reach into the table, unchecked.
+// Lines that reach into the table, unchecked. Each answers the table from here on, None for a bad line.
 use crate::field::{last_value, only_value};
 use crate::form::{read_part, settings_part};
-use calls_printed::print::{print_bad, print_record, print_words};
+use calls_printed::print::{print_record, print_words};
 use reads::table::{Table, tag_limit};
 use reads_rules::origin::Origin;
 use reads_rules::read::Read;
@@ -11,18 +11,16 @@ use text::number::{MOST_32, MOST_64};
 
 // Whether a table may open a tag.
 fn may_open(o: Origin, tag: u64) -> bool {
-    tag < tag_limit(o.settings) as u64
+    tag < u64::from(tag_limit(o.settings))
 }
 
-pub(crate) fn run_record(line: &[u8], t: Table) {
-    match only_value(line, b"record tag=", MOST_32) {
-        Some(tag) if may_open(t.origin, tag) => {
-            let opened = t.opened;
-            let state = record_at(&opened, &t.words, tag as usize);
-            print_record(tag, state);
-        }
-        _ => print_bad(),
+pub(crate) fn run_record(line: &[u8], t: Table) -> Option<Table> {
+    let tag = only_value(line, b"record tag=", MOST_32)?;
+    if !may_open(t.origin, tag) {
+        return None;
     }
+    print_record(tag, record_at(&t.opened, &t.words, tag as usize));
+    Some(t)
 }
 
 // What a line puts at a tag.
@@ -48,29 +46,22 @@ fn force_in(line: &[u8]) -> Option<Forced> {
     })
 }
 
-pub(crate) fn run_force(line: &[u8], mut t: Table) -> Table {
-    match force_in(line) {
-        Some(f) if may_open(t.origin, f.tag) => {
-            let mut opened = t.opened;
-            put_state(&mut opened, &mut t.words, f.tag as usize, Some(f.read));
-            t.opened = opened;
-            print_words(b"force");
-        }
-        _ => print_bad(),
+pub(crate) fn run_force(line: &[u8], mut t: Table) -> Option<Table> {
+    let f = force_in(line)?;
+    if !may_open(t.origin, f.tag) {
+        return None;
     }
-    t
+    put_state(&mut t.opened, &mut t.words, f.tag as usize, Some(f.read));
+    print_words(b"force");
+    Some(t)
 }
 
-pub(crate) fn run_settings(line: &[u8], mut t: Table) -> Table {
-    match settings_part(line, b"settings mps=") {
-        Some(front) if front.next == line.len() => {
-            t.origin = Origin {
-                settings: front.settings,
-                requester: t.origin.requester,
-            };
-            print_words(b"settings");
-        }
-        _ => print_bad(),
+pub(crate) fn run_settings(line: &[u8], mut t: Table) -> Option<Table> {
+    let front = settings_part(line, b"settings mps=")?;
+    if front.next != line.len() {
+        return None;
     }
-    t
+    t.origin.settings = front.settings;
+    print_words(b"settings");
+    Some(t)
 }

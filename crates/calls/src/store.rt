@@ -1,34 +1,24 @@
-// Lines about the store.
+// Lines about the store. Each answers None for a bad line, of which nothing is done.
 use crate::console::STORE_MOST;
 use crate::field::{last_value, only_value};
 use calls_printed::checksum::checksum;
-use calls_printed::print::{print_bad, print_bytes, print_checksum, print_number};
+use calls_printed::print::{print_bytes, print_checksum, print_number};
 use text::fields::decimal_after;
 use text::number::{MOST_8, MOST_64};
 
-// How many bytes are lent from here on: as the line says, or as before.
-pub(crate) fn run_store(line: &[u8], lent: usize, store: &mut [u8]) -> usize {
-    match only_value(line, b"store len=", STORE_MOST as u64) {
-        Some(len) => {
-            store.fill(0);
-            print_number(b"store len=", len);
-            len as usize
-        }
-        None => {
-            print_bad();
-            lent
-        }
-    }
+// How many bytes are lent from here on.
+pub(crate) fn run_store(line: &[u8], store: &mut [u8]) -> Option<usize> {
+    let len = only_value(line, b"store len=", STORE_MOST as u64)?;
+    store.fill(0);
+    print_number(b"store len=", len);
+    Some(len as usize)
 }
 
-pub(crate) fn run_fill(line: &[u8], store: &mut [u8]) {
-    match only_value(line, b"fill byte=", MOST_8) {
-        Some(byte) => {
-            store.fill(byte as u8);
-            print_number(b"fill byte=", byte);
-        }
-        None => print_bad(),
-    }
+pub(crate) fn run_fill(line: &[u8], store: &mut [u8]) -> Option<()> {
+    let byte = only_value(line, b"fill byte=", MOST_8)?;
+    store.fill(byte as u8);
+    print_number(b"fill byte=", byte);
+    Some(())
 }
 
 // The most bytes that a line shows.
@@ -41,17 +31,15 @@ fn shown<'a>(line: &[u8], store: &'a [u8]) -> Option<&'a [u8]> {
     store.get(from.value as usize..)?.get(..len as usize)
 }
 
-pub(crate) fn run_bytes(line: &[u8], store: &[u8]) {
-    match shown(line, store) {
-        Some(bytes) => print_bytes(bytes),
-        None => print_bad(),
-    }
+pub(crate) fn run_bytes(line: &[u8], store: &[u8]) -> Option<()> {
+    print_bytes(shown(line, store)?);
+    Some(())
 }
 
-pub(crate) fn run_sum(line: &[u8], store: &[u8]) {
-    if line == b"sum".as_slice() {
-        print_checksum(checksum(store));
-    } else {
-        print_bad();
+pub(crate) fn run_sum(line: &[u8], store: &[u8]) -> Option<()> {
+    if line != b"sum".as_slice() {
+        return None;
     }
+    print_checksum(checksum(store));
+    Some(())
 }

@@ -1,10 +1,10 @@
-// Lines that call the table. Each answers the table from here on.
+// Lines that call the table. Each answers the table from here on, None for a bad line.
 ghost use Rattle.std.specs.Prelude.{◌≤◌, IfSome};
 
 use crate::field::{last_value, only_value};
 use crate::form::{read_part, settings_part};
 use calls_printed::LINE_MOST;
-use calls_printed::print::{print_bad, print_owed};
+use calls_printed::print::print_owed;
 use calls_printed::table::{make_new, open_into, take_packet, withdraw_tag};
 use reads::table::Table;
 use reads_rules::origin::Origin;
@@ -12,7 +12,7 @@ use reads_rules::request::ReadRequest;
 use text::fields::{decimal_after, hex_after};
 use text::hex::hex_bytes;
 use text::number::{MOST_32, MOST_64};
-use text::words::{part, starts_with};
+use text::words::part;
 
 fn origin_in(line: &[u8]) -> Option<Origin> {
     let front = settings_part(line, b"new mps=")?;
@@ -23,14 +23,8 @@ fn origin_in(line: &[u8]) -> Option<Origin> {
     })
 }
 
-pub(crate) fn run_new(line: &[u8], t: Table, store: &mut [u8]) -> Table {
-    match origin_in(line) {
-        Some(origin) => make_new(origin, store),
-        None => {
-            print_bad();
-            t
-        }
-    }
+pub(crate) fn run_new(line: &[u8], store: &mut [u8]) -> Option<Table> {
+    Some(make_new(origin_in(line)?, store))
 }
 
 // The most bytes of an output.
@@ -63,17 +57,10 @@ fn open_in(line: &[u8]) -> Option<Asked>
     })
 }
 
-pub(crate) fn run_open(line: &[u8], t: Table, store: &[u8]) -> Table {
-    match open_in(line) {
-        Some(a) => {
-            let mut space = [238u8; OUT_MOST];
-            open_into(a.request, a.tag, t, store, &mut space[..a.room])
-        }
-        None => {
-            print_bad();
-            t
-        }
-    }
+pub(crate) fn run_open(line: &[u8], t: Table, store: &[u8]) -> Option<Table> {
+    let a = open_in(line)?;
+    let mut space = [238u8; OUT_MOST];
+    Some(open_into(a.request, a.tag, t, store, &mut space[..a.room]))
 }
 
 // The packet whose digits follow the key up to the line's end, laid over the front of a space.
@@ -83,31 +70,21 @@ fn packet_in<'a>(line: &[u8], space: &'a mut [u8]) -> Option<&'a [u8]> {
     Some(part(space, 0, n))
 }
 
-pub(crate) fn run_take(line: &[u8], t: Table, store: &mut [u8]) -> Table {
+pub(crate) fn run_take(line: &[u8], t: Table, store: &mut [u8]) -> Option<Table> {
     let mut space = [0u8; LINE_MOST / 2];
-    match packet_in(line, &mut space) {
-        Some(packet) => take_packet(packet, t, store),
-        None => {
-            print_bad();
-            t
-        }
-    }
+    let packet = packet_in(line, &mut space)?;
+    Some(take_packet(packet, t, store))
 }
 
-pub(crate) fn run_withdraw(line: &[u8], t: Table) -> Table {
-    match only_value(line, b"withdraw tag=", MOST_32) {
-        Some(tag) => withdraw_tag(tag as u32, t),
-        None => {
-            print_bad();
-            t
-        }
-    }
+pub(crate) fn run_withdraw(line: &[u8], t: Table) -> Option<Table> {
+    let tag = only_value(line, b"withdraw tag=", MOST_32)?;
+    Some(withdraw_tag(tag as u32, t))
 }
 
-pub(crate) fn run_owed(line: &[u8], t: Table) {
-    if line == b"owed".as_slice() {
-        print_owed(t.owed());
-    } else {
-        print_bad();
+pub(crate) fn run_owed(line: &[u8], t: Table) -> Option<Table> {
+    if line != b"owed".as_slice() {
+        return None;
     }
+    print_owed(t.owed());
+    Some(t)
 }

@@ -10,6 +10,7 @@ pub fn checksum(bytes: &[u8]) -> u64
     ensures { result ≡ checksum bytes.now }
 {
     let mut hash: u64 = 14695981039346656037;
+    // `as`, not u64::from: with it the check did not find the next turn of the checksum.
     for b in bytes {
         hash = (hash ^ *b as u64).wrapping_mul(PRIME);
     }

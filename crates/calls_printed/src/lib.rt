@@ -3,6 +3,7 @@
 #![tactic(auto)]
 
 pub mod checksum;
+mod line;
 pub mod print;
 pub mod table;
 

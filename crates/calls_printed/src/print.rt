@@ -1,47 +1,24 @@
-// What a line prints: a text in a buffer, written whole with its newline. These functions answer nothing.
-use crate::LINE_MOST;
+// What a line prints, by Line and not by Display: public functions here are given no handle to print with. These
+// functions answer nothing.
+use crate::line::Line;
 use byte_enables::Access;
 use reads_answers::TakeAnswer;
 use reads_rules::read::Read;
 use reads_rules::request::ReadRequest;
-use text::decimal::put_decimal;
-use text::hex::{put_hex, put_hex_fixed, put_hex_plain};
-use text::output::put_text;
-use text::words::part;
-use tlp::refusal::Refusal;
-
-// Room for every line.
-type Text = [u8; LINE_MOST];
-
-// Writes the first size bytes of a text, and a newline.
-fn write_line(text: &mut Text, size: usize) {
-    let end = put_text(b"\n", size, text);
-    io::write_all(1, part(text, 0, end));
-}
-
-// A key and its number, from index at on, and the index after them.
-fn put_number(key: &[u8], n: u64, at: usize, text: &mut Text) -> usize {
-    let from = put_text(key, at, text);
-    put_decimal(n, from, text)
-}
-
-fn put_bytes(key: &[u8], bytes: &[u8], at: usize, text: &mut Text) -> usize {
-    let from = put_text(key, at, text);
-    put_hex(bytes, from, text)
-}
+use tlp::refusal::{Refusal, number_in};
 
 // A line of words.
 pub fn print_words(words: &[u8]) {
-    let mut text = [0u8; LINE_MOST];
-    let size = put_text(words, 0, &mut text);
-    write_line(&mut text, size);
+    let mut line = Line::new();
+    line.add(words);
+    line.write();
 }
 
 // A line of a key and its number.
 pub fn print_number(key: &[u8], n: u64) {
-    let mut text = [0u8; LINE_MOST];
-    let size = put_number(key, n, 0, &mut text);
-    write_line(&mut text, size);
+    let mut line = Line::new();
+    line.add_number(key, n);
+    line.write();
 }
 
 // What a line prints that has no form or asks for too much.
@@ -49,93 +26,83 @@ pub fn print_bad() {
     print_words(b"bad");
 }
 
-// 0 for accepted.
-fn number_in<T: Copy>(answer: Result<T, Refusal>) -> u64 {
-    match answer {
-        Ok(_) => 0,
-        Err(refusal) => refusal.number() as u64,
-    }
-}
-
 pub(crate) fn print_new(answer: Result<(), Refusal>) {
-    print_number(b"new code=", number_in(answer));
+    print_number(b"new code=", u64::from(number_in(answer)));
 }
 
 pub(crate) fn print_open(answer: Result<usize, Refusal>, out: &[u8]) {
-    let mut text = [0u8; LINE_MOST];
-    let at = put_number(b"open code=", number_in(answer), 0, &mut text);
-    let size = put_bytes(b" out=", out, at, &mut text);
-    write_line(&mut text, size);
+    let mut line = Line::new();
+    line.add_number(b"open code=", u64::from(number_in(answer)));
+    line.add_bytes(b" out=", out);
+    line.write();
 }
 
 pub(crate) fn print_take(a: TakeAnswer) {
     match a {
         TakeAnswer::More => print_words(b"take more"),
         TakeAnswer::Done => print_words(b"take done"),
-        TakeAnswer::Failed(status) => print_number(b"take failed status=", status as u64),
+        TakeAnswer::Failed(status) => print_number(b"take failed status=", u64::from(status)),
         TakeAnswer::Poisoned => print_words(b"take poisoned"),
         TakeAnswer::Unread(refusal) | TakeAnswer::Refused(refusal) => {
-            print_number(b"take code=", refusal.number() as u64)
+            print_number(b"take code=", u64::from(refusal.number()))
         }
     }
 }
 
 pub(crate) fn print_withdraw(answer: Result<(), Refusal>) {
-    print_number(b"withdraw code=", number_in(answer));
+    print_number(b"withdraw code=", u64::from(number_in(answer)));
 }
 
 // What `owed` answered.
 pub fn print_owed(answer: Result<u64, Refusal>) {
     match answer {
         Ok(n) => print_number(b"owed dw=", n),
-        Err(refusal) => print_number(b"owed code=", refusal.number() as u64),
+        Err(refusal) => print_number(b"owed code=", u64::from(refusal.number())),
     }
 }
 
-fn put_access(a: Access, at: usize, text: &mut Text) -> usize {
-    let address = put_text(b" addr=", at, text);
-    let length = put_hex_plain(a.address, address, text);
-    let first = put_number(b" len=", a.length as u64, length, text);
-    let last = put_number(b" first=", a.first as u64, first, text);
-    put_number(b" last=", a.last as u64, last, text)
+fn add_access(line: &mut Line, a: Access) {
+    line.add_hex(b" addr=", a.address);
+    line.add_number(b" len=", u64::from(a.length));
+    line.add_number(b" first=", u64::from(a.first));
+    line.add_number(b" last=", u64::from(a.last));
 }
 
-fn put_request(q: ReadRequest, at: usize, text: &mut Text) -> usize {
-    let class = put_access(q.access, at, text);
-    let attributes = put_number(b" tc=", q.traffic_class as u64, class, text);
-    let start = put_number(b" attr=", q.attributes as u64, attributes, text);
-    put_number(b" start=", q.start, start, text)
+fn add_request(line: &mut Line, q: ReadRequest) {
+    add_access(line, q.access);
+    line.add_number(b" tc=", u64::from(q.traffic_class));
+    line.add_number(b" attr=", u64::from(q.attributes));
+    line.add_number(b" start=", q.start);
 }
 
-fn put_state(x: Option<Read>, at: usize, text: &mut Text) -> usize {
+fn add_state(line: &mut Line, x: Option<Read>) {
     match x {
-        None => put_text(b" free", at, text),
+        None => line.add(b" free"),
         Some(r) => {
-            let taken = put_request(r.request, at, text);
-            put_number(b" taken=", r.taken as u64, taken, text)
+            add_request(line, r.request);
+            line.add_number(b" taken=", u64::from(r.taken));
         }
     }
 }
 
 // What is kept of a tag.
 pub fn print_record(tag: u64, x: Option<Read>) {
-    let mut text = [0u8; LINE_MOST];
-    let at = put_number(b"record tag=", tag, 0, &mut text);
-    let size = put_state(x, at, &mut text);
-    write_line(&mut text, size);
+    let mut line = Line::new();
+    line.add_number(b"record tag=", tag);
+    add_state(&mut line, x);
+    line.write();
 }
 
 // Bytes of the store; 4,096 at most, so that they fit.
 pub fn print_bytes(bytes: &[u8]) {
-    let mut text = [0u8; LINE_MOST];
-    let size = put_bytes(b"bytes ", bytes, 0, &mut text);
-    write_line(&mut text, size);
+    let mut line = Line::new();
+    line.add_bytes(b"bytes ", bytes);
+    line.write();
 }
 
 // The store's checksum.
 pub fn print_checksum(sum: u64) {
-    let mut text = [0u8; LINE_MOST];
-    let at = put_text(b"sum=", 0, &mut text);
-    let size = put_hex_fixed(sum, 16, at, &mut text);
-    write_line(&mut text, size);
+    let mut line = Line::new();
+    line.add_hex_whole(b"sum=", sum);
+    line.write();
 }

@@ -8,7 +8,7 @@ use reads::table::{Making, Table};
 use reads_answers::TakeAnswer;
 use reads_rules::request::ReadRequest;
 use text::words::part;
-use tlp::refusal::Refusal;
+use tlp::refusal::{Refusal, number_in};
 use tlp::settings::Settings;
 
 // ---- what is printed: the console's words (docs/CALLS.md)
@@ -45,14 +45,6 @@ fn print_owed(rt: &impl Print, answer: Result<u64, Refusal>) {
         Ok(n) => println!(rt; "owed dw={n}"),
         Err(refusal) => println!(rt; "owed code={}", refusal.number()),
     };
-}
-
-// 0 for accepted.
-fn number_in(answer: Result<(), Refusal>) -> u32 {
-    match answer {
-        Ok(()) => 0,
-        Err(refusal) => refusal.number(),
-    }
 }
 
 // ---- calls: each is given the table that the last one handed back, and says what is then owed
@@ -114,7 +106,7 @@ fn take(
     store: &mut [u8],
 ) -> Table {
     let packet = completion(length, byte_count, lower_address, byte);
-    let taking = t.take(part(&packet, 0, 12 + 4 * length as usize), store);
+    let taking = t.take(part(&packet, 0, 12 + 4 * usize::from(length)), store);
     print_take(rt, taking.answer);
     print_owed(rt, taking.table.owed());
     taking.table

@@ -1,6 +1,6 @@
 -- Numbers in a base: one law for each place of the code that reads or prints one.
-use Rattle.std.proofs.Common.{◌≡◌, ℕ, zero, suc, ◌+◌, ◌-◌, ◌*◌, ◌/◌, ◌%◌, ◌^◌, ◌<◌, ◌≤◌, Bool, true, false, not, ◌&&◌, eqb, ltb, leb, List, [], ◌∷◌, ◌++◌, length, get_or, drop, set, sym, refl, ap, ◌∙◌, le_trans, le_refl, lt_of_lt_of_le, mod-lt, mod-eq_of_lt, div-lt_iff_lt-mul, mul-le-mul_left, pow-suc, div-le_self, add-one, arith, length-append, drop_of_length-le, drop-cons, ltb-false, ltb-true, le-ltb, lt-ltb, le-leb, Option, Some, None}
-use mathlib.Core.Bool.{and-false}
+use Rattle.std.proofs.Common.{◌≡◌, ℕ, zero, suc, ◌+◌, ◌-◌, ◌*◌, ◌/◌, ◌%◌, ◌^◌, ◌<◌, ◌≤◌, Bool, true, false, not, ◌&&◌, eqb, ne_eqb, ltb, leb, List, [], ◌∷◌, ◌++◌, length, get_or, drop, set, sym, refl, ap, ◌∙◌, le_trans, le_refl, lt_of_lt_of_le, mod-lt, mod-eq_of_lt, div-lt_iff_lt-mul, mul-le-mul_left, pow-suc, div-le_self, add-one, arith, length-append, drop_of_length-le, drop-cons, ltb-false, ltb-true, le-ltb, lt-ltb, le-leb, Option, Some, None}
+use mathlib.Core.Bool.{and-false, false≢true}
 use native.Mathlib.Nat.{add-sub_cancel_left, div-lt_self, pow-zero, pow-le-pow_left, pow-le-pow_right}
 use borrow.Author.Tests.{lt-leb}
 use Rattle.bits.specs.Choice.{pick}
@@ -60,15 +60,15 @@ unfolding value_from
 value-le base v [] p = le_refl v
 value-le base v (b ∷ text) p = le_trans (omega (arith, mul-le-mul_left v p)) (value-le base (v * base + hex_value b) text p)
 
-pub number-none : (base most : ℕ) (text : List ℕ) → length text ≡ 0 → None ≡ number_in base most text
+pub number-none : (base most : ℕ) (text : List ℕ) (r : Bool) → r ≡ eqb (length text) 0 → r ≡ true → None ≡ number_in base most text
 unfolding number_in empty
-number-none base most [] h = refl
-number-none base most (b ∷ text) h = absurd (omega arith)
+number-none base most [] r e h = refl
+number-none base most (b ∷ text) r e h = absurd (false≢true (sym (ne_eqb (length (b ∷ text)) 0 (λ q. omega arith)) ∙ (sym e ∙ h)))
 
-pub number-start : (base most : ℕ) (text : List ℕ) → (length text ≡ 0 → ⊥) → number_from base most 0 text ≡ number_in base most text
+pub number-start : (base most : ℕ) (text : List ℕ) (r : Bool) → r ≡ eqb (length text) 0 → r ≡ false → number_from base most 0 text ≡ number_in base most text
 unfolding number_in empty number_from
-number-start base most [] h = absurd (h refl)
-number-start base most (b ∷ text) h = refl
+number-start base most [] r e h = absurd (false≢true (sym h ∙ e))
+number-start base most (b ∷ text) r e h = refl
 
 module _ (base most v i : ℕ) (text : List ℕ) (t : Option ℕ) (n : number_from base most v (drop i text) ≡ t) where
   pub number-done : length text ≤ i → v ≤ most → Some v ≡ t
@@ -85,7 +85,7 @@ module _ (base most v i : ℕ) (text : List ℕ) (t : Option ℕ) (n : number_fr
     number-digit l = rw (digits-first base i text h, ← e, le-ltb d base l) at n
 
     module _ (l : d < base) (x : Bool) (f : x ≡ ltb most (v * base + d)) where
-      pub number-above : 0 < base → x ≡ true → None ≡ t
+      pub number-above : 1 < base → x ≡ true → None ≡ t
       unfolding number_from
       number-above p g =
           rw (
@@ -93,7 +93,7 @@ module _ (base most v i : ℕ) (text : List ℕ) (t : Option ℕ) (n : number_fr
             ← e,
             lt-ltb d base l,
             value-first,
-            lt-leb (value_from base (v * base + d) (drop (i + 1) text)) most (lt_of_lt_of_le (ltb-true most (v * base + d) (sym f ∙ g)) (value-le base (v * base + d) (drop (i + 1) text) p)),
+            lt-leb (value_from base (v * base + d) (drop (i + 1) text)) most (lt_of_lt_of_le (ltb-true most (v * base + d) (sym f ∙ g)) (value-le base (v * base + d) (drop (i + 1) text) (omega arith))),
             and-false (all_digits base (drop (i + 1) text)),
           ) at n
 

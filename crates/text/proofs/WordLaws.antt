@@ -1,5 +1,5 @@
 -- Words and keys: one law for each place of the code.
-use Rattle.std.proofs.Common.{◌≡◌, ℕ, suc, ◌+◌, ◌-◌, ◌<◌, ◌≤◌, min, Bool, true, false, not, ◌&&◌, eqb, leb, List, [], ◌∷◌, length, get_or, take, drop, sym, refl, ◌∙◌, ⊎_elim, le_of_eq, add-zero, sub-eq-zero_of_le, add-one, arith, length-drop, drop_of_length-le, take_all, drop-cons, eq-eqb, ne_eqb, le-leb, leb-true, Some, None}
+use Rattle.std.proofs.Common.{◌≡◌, ℕ, zero, suc, ◌+◌, ◌-◌, ◌<◌, ◌≤◌, min, Bool, true, false, not, ◌&&◌, eqb, leb, List, [], ◌∷◌, length, get_or, take, drop, sym, refl, ◌∙◌, ⊎_elim, le_of_eq, add-zero, sub-eq-zero_of_le, add-one, arith, length-drop, drop_of_length-le, take_all, drop-cons, eq-eqb, ne_eqb, le-leb, leb-true, Some, None}
 use mathlib.Core.Bool.{and-false, false≢true}
 use lib.Seq.{take-nil}
 use lib.Pointwise.{pointwise}
@@ -37,7 +37,7 @@ module _ (text : List ℕ) (from to : ℕ) where
 
 -- ---- the end of a word
 
-pub end-start : (text : List ℕ) (at i : ℕ) → i ≡ min at (length text) → i + word_length (drop i text) ≡ word_end text at
+end-start : (text : List ℕ) (at i : ℕ) → i ≡ min at (length text) → i + word_length (drop i text) ≡ word_end text at
 unfolding word_end
 end-start text at i e =
     ⊎_elim
@@ -48,22 +48,41 @@ end-start text at i e =
     (lt-or-le at (length text))
 
 module _ (text : List ℕ) (i t : ℕ) (q : i + word_length (drop i text) ≡ t) where
-  pub end-done : length text ≤ i → i ≡ t
+  end-done : length text ≤ i → i ≡ t
   unfolding word_length
   end-done h = sym (add-zero i) ∙ (rw (drop_of_length-le text h) at q)
 
   module _ (h : i < length text) where
-    pub end-space : get_or text i 0 ≡ 32 → i ≡ t
+    end-space : get_or text i 0 ≡ 32 → i ≡ t
     unfolding word_length
     end-space e = sym (add-zero i) ∙ (rw (drop-cons text i 0 h, eq-eqb (get_or text i 0) 32 e) at q)
 
-    pub end-next : (get_or text i 0 ≡ 32 → ⊥) → i + 1 + word_length (drop (i + 1) text) ≡ t
+    end-next : (get_or text i 0 ≡ 32 → ⊥) → i + 1 + word_length (drop (i + 1) text) ≡ t
     unfolding word_length
     end-next e =
         let k : i + suc (word_length (drop (suc i) text)) ≡ t = rw (drop-cons text i 0 h, ne_eqb (get_or text i 0) 32 e) at q in
         rw (add-one i) (omega arith)
 
-pub ruleset end-laws = (end-start, end-done, end-space, end-next)
+module _ (text : List ℕ) (r t : ℕ) (w : r ≤ length text) (f : r < length text → get_or text r 0 ≡ 32) where
+  end-walk : (n i : ℕ) → n + i ≡ r → ((k : ℕ) → i ≤ k → k < r → get_or text k 0 ≡ 32 → ⊥) → i + word_length (drop i text) ≡ t → r ≡ t
+  end-walk zero i e b q =
+      let g : i ≡ r = omega arith in
+      ⊎_elim
+      (λ (h : r < length text). sym g ∙ end-space text i t q (omega arith) (rw g (f h)))
+      (λ (h : length text ≤ r). sym g ∙ end-done text i t q (omega arith))
+      (lt-or-le r (length text))
+  end-walk (suc n) i e b q =
+      end-walk n (i + 1) (omega arith) (λ k g h. b k (omega arith) h) (end-next text i t q (omega arith) (b i (omega arith) (omega arith)))
+
+module _ (text : List ℕ) (at r : ℕ) (w : r ≤ length text) where
+  pub end-found : (at ≤ length text → at ≤ r) → (length text < at → r ≡ length text) → ((k : ℕ) → at ≤ k → k < r → get_or text k 0 ≡ 32 → ⊥) → (r < length text → get_or text r 0 ≡ 32) → r ≡ word_end text at
+  end-found g p b f =
+      ⊎_elim
+      (λ (h : length text < at). p h ∙ end-done text (length text) (word_end text at) (end-start text at (length text) (omega arith)) (omega arith))
+      (λ (h : at ≤ length text).
+      let q : at ≤ r = g h in
+      end-walk text r (word_end text at) w f (r - at) at (omega arith) b (end-start text at at (omega arith)))
+      (lt-or-le (length text) at)
 
 -- ---- keys
 

@@ -1,5 +1,6 @@
 pub mod Laid
 pub mod Buffer
+pub mod Base
 pub mod Digit
 pub mod Number
 pub mod Hex

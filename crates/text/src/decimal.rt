@@ -3,14 +3,14 @@ ghost use Rattle.std.specs.Prelude.{◌≡◌};
 ghost use Rattle.text.specs.Laid.{laid, after};
 ghost use Rattle.text.specs.Decimal.{decimal_number, decimal_text};
 
-use crate::number::{is_plain, number_in, put_plain};
+use crate::number::{Base, is_plain, number_in, put_plain};
 
 // The number that a text spells, where it is not above most.
 pub fn decimal(text: &[u8], most: u64) -> Option<u64>
     ensures { result ≡ decimal_number most text.now }
 {
     if is_plain(text) {
-        number_in(text, 10, most)
+        number_in(text, Base::Ten, most)
     } else {
         None
     }
@@ -22,5 +22,5 @@ pub fn put_decimal(n: u64, at: usize, out: &mut [u8]) -> usize
     ensures value { result ≡ after at (decimal_text n) out.old }
     ensures out_after { out.new ≡ laid at (decimal_text n) out.old }
 {
-    put_plain(n, 10, at, out)
+    put_plain(n, Base::Ten, at, out)
 }

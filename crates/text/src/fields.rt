@@ -1,4 +1,5 @@
 // The fields of a line: keys in a fixed order, each followed by its value.
+// Line, index and key go apart: a cursor would hold the line, and clauses are over what goes in.
 ghost use Rattle.std.specs.Prelude.{◌≡◌, ℕ, ◌^◌, ◌<◌, ◌≤◌, List, Option, IfSome};
 ghost use Rattle.std.specs.Fn.{FnReturnsAt};
 ghost use Rattle.text.specs.Fields.{read_after, decimal_after, hex_after, plain_hex_after, key_after};
@@ -8,7 +9,7 @@ use crate::hex::{hex_number, hex_plain};
 use crate::words::{part, starts_with, value_at};
 
 // A value, and the index after it, where the next field's key stands.
-#[derive(Clone, Copy)]
+#[derive(Clone, Copy, Debug, PartialEq, Eq)]
 pub struct Field {
     pub value: u64,
     pub next: usize,

@@ -7,10 +7,11 @@ ghost use Rattle.text.specs.Number.{digits};
 ghost use Rattle.text.specs.Hex.{hex_number, hex_plain, hex_plain_text, hex_text};
 ghost use Rattle.text.specs.Hex.{pairs, bytes_spelled, spelled_answer, spelled_over, front_answer, front_over};
 
-use crate::number::{MOST_64, is_plain, number_in, put_digits, put_plain};
+use crate::number::{Base, MOST_64, is_plain, number_in, put_digits, put_plain};
 use crate::output::room;
 
-// The value of a digit, 16 for a byte that is none. No other function looks at letters.
+// The value of a digit, 16 for a byte that is none: a number, no Option, so that a loop over bytes has no branch.
+// No other function looks at letters.
 // What stands below the first letter wraps around to above the last:
 // with so few tests a loop looks at many bytes at once.
 pub fn hex_value(b: u8) -> u8
@@ -34,7 +35,7 @@ pub fn hex_number(text: &[u8]) -> Option<u64>
     ensures { result ≡ hex_number text.now }
 {
     if text.len() <= 16 {
-        number_in(text, 16, MOST_64)
+        number_in(text, Base::Sixteen, MOST_64)
     } else {
         None
     }
@@ -75,6 +76,7 @@ fn lay_bytes(text: &[u8], n: usize, out: &mut [u8])
     requires { (2 * n ≤ length text.now) × ((n ≤ length out.old) × (all_digits 16 text.now ≡ true)) }
     ensures { out.new ≡ put 0 (take n (pairs text.now)) out.old }
 {
+    // Index i counts bytes of out: a pair of digits is read whole, by its own index.
     for i in 0..n {
         let pair = pair_at(text, 2 * i);
         out[i] = hex_value((pair % 256) as u8) * 16 + hex_value((pair / 256) as u8);
@@ -112,6 +114,7 @@ fn lay_hex(bytes: &[u8], at: usize, out: &mut [u8]) -> usize
     ensures out_after { out.new ≡ put at (hex_text bytes.now) out.old }
 {
     // The digits of byte b go to index to.
+    // With chunks_exact_mut(2) and zip in place of to, the check left open what out is after the loop.
     let mut to = at;
     for b in bytes {
         out[to] = hex_digit(*b / 16);
@@ -138,7 +141,7 @@ pub fn put_hex_fixed(n: u64, w: usize, at: usize, out: &mut [u8]) -> usize
     ensures value { result ≡ after at (digits 16 w n) out.old }
     ensures out_after { out.new ≡ laid at (digits 16 w n) out.old }
 {
-    put_digits(n, 16, w, at, out)
+    put_digits(n, Base::Sixteen, w, at, out)
 }
 
 // The digits of n without leading zeros, laid likewise.
@@ -146,5 +149,5 @@ pub fn put_hex_plain(n: u64, at: usize, out: &mut [u8]) -> usize
     ensures value { result ≡ after at (hex_plain_text n) out.old }
     ensures out_after { out.new ≡ laid at (hex_plain_text n) out.old }
 {
-    put_plain(n, 16, at, out)
+    put_plain(n, Base::Sixteen, at, out)
 }

@@ -1,6 +1,8 @@
 // Where a line ends.
 ghost use Rattle.std.specs.Prelude.{◌≡◌, ◌≢◌, ℕ, ◌≤◌, ◌<◌, length, slice_index};
 
+use crate::words::byte_from;
+
 // The index of the first newline from index at on, or the end.
 pub fn line_end(text: &[u8], at: usize) -> usize
     ensures within { result ≤ length text.now }
@@ -9,10 +11,5 @@ pub fn line_end(text: &[u8], at: usize) -> usize
     ensures before { (k : ℕ) → at ≤ k → k < result → slice_index text.now k ≢ 10 }
     ensures newline { result < length text.now → slice_index text.now result ≡ 10 }
 {
-    for i in at..text.len() {
-        if text[i] == b'\n' {
-            return i;
-        }
-    }
-    text.len()
+    byte_from(text, at, b'\n')
 }

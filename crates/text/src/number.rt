@@ -1,6 +1,7 @@
 // Numbers in a base, the highest digit first.
 ghost use Rattle.std.specs.Prelude.{◌≡◌, ◌+◌, ◌*◌, ◌<◌, ◌≤◌, length, nat_lt};
 ghost use Rattle.bits.specs.Put.{put};
+ghost use Rattle.text.specs.Base.{base_value};
 ghost use Rattle.text.specs.Laid.{laid, after};
 ghost use Rattle.text.specs.Number.{plain, number_in, digits, digit_count, plain_text};
 
@@ -13,6 +14,25 @@ pub const MOST_8: u64 = u8::MAX as u64;
 pub const MOST_32: u64 = u32::MAX as u64;
 
 pub const MOST_64: u64 = u64::MAX;
+
+// The bases in which numbers are read and printed.
+#[derive(Clone, Copy, Debug, PartialEq, Eq)]
+pub(crate) enum Base {
+    Ten,
+    Sixteen,
+}
+
+impl Base {
+    fn value(self) -> u64
+        ensures value { result ≡ base_value self }
+        ensures bounds { (1 < result) × (result ≤ 16) }
+    {
+        match self {
+            Base::Ten => 10,
+            Base::Sixteen => 16,
+        }
+    }
+}
 
 // Whether a text has no leading zero.
 pub(crate) fn is_plain(text: &[u8]) -> bool
@@ -30,11 +50,11 @@ fn exceeds(v: u64, base: u64, d: u64, most: u64) -> bool
 }
 
 // The number that a text spells in a base, where it is not above most.
-pub(crate) fn number_in(text: &[u8], base: u64, most: u64) -> Option<u64>
-    requires { 0 < base }
-    ensures { result ≡ number_in base most text.now }
+pub(crate) fn number_in(text: &[u8], base: Base, most: u64) -> Option<u64>
+    ensures { result ≡ number_in (base_value base) most text.now }
 {
-    if text.len() == 0 {
+    let base = base.value();
+    if text.is_empty() {
         return None;
     }
     // v is what the digits before spell.
@@ -50,7 +70,7 @@ pub(crate) fn number_in(text: &[u8], base: u64, most: u64) -> Option<u64>
 }
 
 // How many digits n has.
-pub(crate) fn digit_count(n: u64, base: u64) -> usize
+fn digit_count(n: u64, base: u64) -> usize
     requires { 1 < base }
     ensures { result ≡ digit_count base n }
 {
@@ -58,7 +78,7 @@ pub(crate) fn digit_count(n: u64, base: u64) -> usize
     let mut m = n;
     let mut k: usize = 1;
     while base <= m {
-        m = m / base;
+        m /= base;
         k += 1;
     }
     k
@@ -76,30 +96,28 @@ fn lay_digits(n: u64, base: u64, w: usize, at: usize, out: &mut [u8]) -> usize
     while at < i {
         i -= 1;
         out[i] = hex_digit((m % base % 16) as u8);
-        m = m / base;
+        m /= base;
     }
     at + w
 }
 
 // The w lowest digits of n, laid into out from index at on, and the index after them;
 // at and nothing laid where they do not fit.
-pub(crate) fn put_digits(n: u64, base: u64, w: usize, at: usize, out: &mut [u8]) -> usize
-    requires { (0 < base) × (base ≤ 16) }
-    ensures value { result ≡ after at (digits base w n) out.old }
-    ensures out_after { out.new ≡ laid at (digits base w n) out.old }
+pub(crate) fn put_digits(n: u64, base: Base, w: usize, at: usize, out: &mut [u8]) -> usize
+    ensures value { result ≡ after at (digits (base_value base) w n) out.old }
+    ensures out_after { out.new ≡ laid at (digits (base_value base) w n) out.old }
 {
     if !room(at, w, out.len()) {
         return at;
     }
-    lay_digits(n, base, w, at, out)
+    lay_digits(n, base.value(), w, at, out)
 }
 
 // The same with as many digits as n has.
-pub(crate) fn put_plain(n: u64, base: u64, at: usize, out: &mut [u8]) -> usize
-    requires { (1 < base) × (base ≤ 16) }
-    ensures value { result ≡ after at (plain_text base n) out.old }
-    ensures out_after { out.new ≡ laid at (plain_text base n) out.old }
+pub(crate) fn put_plain(n: u64, base: Base, at: usize, out: &mut [u8]) -> usize
+    ensures value { result ≡ after at (plain_text (base_value base) n) out.old }
+    ensures out_after { out.new ≡ laid at (plain_text (base_value base) n) out.old }
 {
-    let w = digit_count(n, base);
+    let w = digit_count(n, base.value());
     put_digits(n, base, w, at, out)
 }

@@ -1,5 +1,5 @@
 // Words with one space between them, and the values of their keys.
-ghost use Rattle.std.specs.Prelude.{◌≡◌, ◌+◌, ◌≤◌, true, length};
+ghost use Rattle.std.specs.Prelude.{◌≡◌, ◌≢◌, ℕ, ◌+◌, ◌≤◌, ◌<◌, true, length, slice_index};
 ghost use Rattle.text.specs.Words.{part, starts_with, word_end, value_at};
 
 // The bytes from index from up to index to, as far as there are any.
@@ -10,17 +10,27 @@ pub fn part<'a>(bytes: &'a [u8], from: usize, to: usize) -> &'a [u8]
     &bytes[from.min(end)..end]
 }
 
+// The index of the first such byte from index at on, or the end.
+pub(crate) fn byte_from(text: &[u8], at: usize, byte: u8) -> usize
+    ensures within { result ≤ length text.now }
+    ensures behind { at ≤ length text.now → at ≤ result }
+    ensures past { length text.now < at → result ≡ length text.now }
+    ensures before { (k : ℕ) → at ≤ k → k < result → slice_index text.now k ≢ byte }
+    ensures found { result < length text.now → slice_index text.now result ≡ byte }
+{
+    for i in at..text.len() {
+        if text[i] == byte {
+            return i;
+        }
+    }
+    text.len()
+}
+
 // The index of the first space from index at on, or the end.
 pub fn word_end(line: &[u8], at: usize) -> usize
     ensures { result ≡ word_end line.now at }
 {
-    let from = at.min(line.len());
-    for i in from..line.len() {
-        if line[i] == b' ' {
-            return i;
-        }
-    }
-    line.len()
+    byte_from(line, at, b' ')
 }
 
 // Whether key stands in a line from index at on.
@@ -32,7 +42,7 @@ pub fn starts_with(line: &[u8], at: usize, key: &[u8]) -> bool
 }
 
 // The place of a key's value: from index from up to index to.
-#[derive(Clone, Copy)]
+#[derive(Clone, Copy, Debug, PartialEq, Eq)]
 pub struct Place {
     pub from: usize,
     pub to: usize,

@@ -10,4 +10,4 @@ pub lay_digits-requires : goal.lay_digits-requires
 lay_digits-requires c = (search rules, (search rules, search room-holds))
 
 pub returns : goal.returns
-returns c = record { value = search (laid-laws, length_digits); out_after = search (laid-laws, length_digits) }
+returns c = record { value = search (laid-laws, length_digits); out_after = rw (← c.value.ensures.value) (search (laid-laws, length_digits)) }
