@@ -1,7 +1,7 @@
-// The same turns with one table, u, lent to every call. Both kinds of turn are in one loop, with one invariant.
+// The same turns with one table, u, lent to every call. Both kinds of turn are in one loop.
 use crate::code::{take_turn_code, withdraw_turn_code};
 use crate::setup::read_of;
-use crate::work::Work;
+use crate::work::{Turn, Work};
 use reads::table::Table;
 use reads_in_place::{open, take, withdraw};
 
@@ -13,13 +13,13 @@ pub(crate) fn run_turns(
     room: &[u8],
     store: &mut [u8],
     out: &mut [u8],
-) -> u32 {
+) -> Option<u32> {
     let mut u = t;
     let q = read_of(w.size);
-    let mut code: u32 = 0;
+    let mut code = None;
     for _ in 0..w.turns {
         let a = open(&mut u, q, w.tag, room, out);
-        if w.takes {
+        if w.turn == Turn::Take {
             code = take_turn_code(code, a, take(&mut u, bytes, store));
         } else {
             code = withdraw_turn_code(code, a, withdraw(&mut u, w.tag));

@@ -12,15 +12,11 @@ mod packet;
 mod setup;
 mod work;
 
-ghost use Rattle.std.specs.Prelude.{◌≤◌};
-
 use crate::packet::put_packet;
 use crate::setup::first_table;
 use crate::work::{Work, way_in, work_in};
 use reads::table::Table;
 use reads_rules::window::STORE_LIMIT;
-use text::lines::line_end;
-use text::words::part;
 
 // The longest store.
 const STORE: usize = STORE_LIMIT as usize;
@@ -36,12 +32,12 @@ pub(crate) const PACKET: usize = 12 + WINDOW;
 fn window_sum(store: &[u8; STORE]) -> u64 {
     let mut sum: u64 = 0;
     for b in &store[..WINDOW] {
-        sum = sum.wrapping_add(*b as u64);
+        sum = sum.wrapping_add(u64::from(*b));
     }
     sum
 }
 
-// The number of the first call that is refused; 0 where none is. Open only measures its store, so it is lent another
+// The number of the first call that is refused. Open only measures its store, so it is lent another
 // of the same size.
 fn turns_code(
     lent: bool,
@@ -51,9 +47,9 @@ fn turns_code(
     bytes: &[u8; PACKET],
     store: &mut [u8; STORE],
     out: &mut [u8; 16],
-) -> u32 {
+) -> Option<u32> {
     let room = [0u8; STORE];
-    let packet = part(bytes, 0, 12 + w.size as usize);
+    let packet = &bytes[..12 + w.size as usize];
     if lent {
         lent::run_turns(t, w, packet, &room, store, out)
     } else if place {
@@ -63,18 +59,16 @@ fn turns_code(
     }
 }
 
-// Does a line's work and prints what came of it.
-fn run_work(lent: bool, place: bool, w: Work)
-    requires { (w.others ≤ 31) × (w.size ≤ 4096) × (w.tag ≤ 31) }
-{
+// Does a line's work and prints what came of it: the number 0 where no call was refused.
+fn run_work(lent: bool, place: bool, w: Work) {
     let mut bytes = [0u8; PACKET];
     let mut store = [0u8; STORE];
     let mut out = [0u8; 16];
-    put_packet(w.size, w.tag, &mut bytes);
-    let t = first_table(w.others, w.tag);
+    put_packet(w, &mut bytes);
+    let t = first_table(w);
     let code = turns_code(lent, place, w, t, &bytes, &mut store, &mut out);
     io::write_all(1, b"code=");
-    io::print_decimal(1, code as u64);
+    io::print_decimal(1, u64::from(code.unwrap_or(0)));
     io::write_all(1, b" sum=");
     io::print_decimal(1, window_sum(&store));
     io::write_all(1, b"\n");
@@ -104,15 +98,20 @@ fn run_line(named: bool, place: bool, line: &[u8]) {
     }
 }
 
-// Runs every line of the input, of which at is the next one's place and n the length.
+// Runs every line of the input. Of an empty one split would give one line, and behind a last newline one more.
 fn run_lines(named: bool, place: bool) {
     let mut input = io::large_buffer();
     let n = io::read_full(0, &mut input);
-    let mut at: usize = 0;
-    while at < n {
-        let end = line_end(&input[..n], at);
-        run_line(named, place, &input[at..end]);
-        at = end + 1;
+    if n == 0 {
+        return;
+    }
+    let text = &input[..n];
+    for line in text
+        .strip_suffix(b"\n")
+        .unwrap_or(text)
+        .split(|b| *b == b'\n')
+    {
+        run_line(named, place, line);
     }
 }
 

@@ -1,6 +1,5 @@
 // The table that the turns start from.
-ghost use Rattle.std.specs.Prelude.{◌≤◌};
-
+use crate::work::Work;
 use byte_enables::Access;
 use reads::table::Table;
 use reads_rules::read::Read;
@@ -29,11 +28,8 @@ pub(crate) fn read_of(size: u32) -> ReadRequest {
 }
 
 // A table with other reads, of 64 bytes, open on the tags after the turns', round the 32 there are; their windows lie
-// behind the turns'. The records are put in by hand, so that the table's calls have no caller beside
-// the turns.
-pub(crate) fn first_table(others: u32, tag: u32) -> Table
-    requires { (others ≤ 31) × (tag ≤ 31) }
-{
+// behind the turns'. The records are put in by hand, so that the table's calls have no caller beside the turns.
+pub(crate) fn first_table(w: Work) -> Table {
     let m = Table::make(
         Settings {
             mps: 4096,
@@ -43,15 +39,19 @@ pub(crate) fn first_table(others: u32, tag: u32) -> Table
         0x0100,
     );
     let mut t = m.table;
-    for i in 0..others {
-        let q = request(131072 + 64 * i as u64, 16, 4096 + 64 * i as u64);
+    for i in 0..w.others {
+        let behind = 64 * u64::from(i);
+        let q = request(131072 + behind, 16, 4096 + behind);
         let x = Some(Read {
             request: q,
             taken: 0,
         });
-        let mut opened = t.opened;
-        put_state(&mut opened, &mut t.words, ((tag + 1 + i) % 32) as usize, x);
-        t.opened = opened;
+        put_state(
+            &mut t.opened,
+            &mut t.words,
+            ((w.tag + 1 + i) % 32) as usize,
+            x,
+        );
     }
     t
 }

@@ -7,7 +7,7 @@ use text::number::MOST_32;
 use tlp::settings::{Settings, settings_listed};
 
 // The settings, and the requester ID of the box.
-#[derive(Clone, Copy)]
+#[derive(Clone, Copy, Debug, PartialEq, Eq)]
 pub struct Header {
     pub settings: Settings,
     pub requester: u16,

@@ -10,14 +10,14 @@ use text::number::MOST_32;
 use text::words::part;
 use tlp::refusal::Refusal;
 
-#[derive(Clone, Copy)]
+#[derive(Clone, Copy, Debug, PartialEq, Eq)]
 pub enum Direction {
     Rx,
     Tx,
 }
 
 // A packet line: its time, its direction, and how many bytes its packet has.
-#[derive(Clone, Copy)]
+#[derive(Clone, Copy, Debug, PartialEq, Eq)]
 pub struct Entry {
     pub at: u32,
     pub direction: Direction,
@@ -58,7 +58,7 @@ fn front_of(text: &[u8]) -> Option<Front>
     })
 }
 
-// Of digits that spell a packet for which there is no room, unless they are bad.
+// The refusal of digits for whose packet there is no room: bad ones are a bad line.
 #[tactic(auto, unfolding(text::specs::Hex::bytes_spelled))]
 fn unlaid(digits: &[u8]) -> Refusal
     ensures { result ≡ unlaid (bytes_spelled digits.now) }
@@ -70,8 +70,8 @@ fn unlaid(digits: &[u8]) -> Refusal
     }
 }
 
-// Reads a packet line: its packet's first most bytes go over the front of out, which stays as it was with another
-// answer. A bad line is refused as such, a good one for whose packet there is no room as output that is too short.
+// Reads a packet line: its packet's first most bytes go over the front of out, which stays as it was where the line is
+// refused. A bad line is refused as such, a good one for whose packet there is no room as output that is too short.
 #[tactic(auto, using(crate::proofs::PacketLineLaws::packet_line_laws), unfolding(crate::specs::PacketLines::packet_line))]
 pub fn packet_line(text: &[u8], most: usize, out: &mut [u8]) -> Result<Entry, Refusal>
     ensures answer { result ≡ entry_answer most (packet_line text.now) out.old }

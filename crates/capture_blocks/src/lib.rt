@@ -24,7 +24,7 @@ use tlp::refusal::Refusal;
 use tlp::settings::Settings;
 
 // How far a capture has been decoded.
-#[derive(Clone, Copy)]
+#[derive(Clone, Copy, Debug, PartialEq, Eq)]
 pub enum Progress {
     // Line one has not come.
     First,
@@ -38,7 +38,7 @@ pub enum Progress {
 
 // What a step came to: how many of its bytes are done with, how many were printed, and how many lines there are and are
 // refused.
-#[derive(Clone, Copy)]
+#[derive(Clone, Copy, Debug, PartialEq, Eq)]
 pub struct Step {
     pub progress: Progress,
     pub used: usize,

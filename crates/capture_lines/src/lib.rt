@@ -12,7 +12,7 @@ pub const TEXT_MOST: usize = 8266;
 
 // A line: end is the index of the next line, or the end of the bytes. It stays an enum of three kinds: end means
 // something else in the last, and who reads a line asks for its kind first.
-#[derive(Clone, Copy)]
+#[derive(Clone, Copy, Debug, PartialEq, Eq)]
 pub enum NextLine {
     Ended { end: usize },
     // It has more than TEXT_MOST bytes.
@@ -37,7 +37,7 @@ fn has_newline(bytes: &[u8]) -> bool
 const CHUNK: usize = 32;
 
 // An index from which on the first newline is found as from index from. No newline stands from index from up to index
-// i, where the next chunk begins.
+// i, where the next chunk begins. No enumerate: i is wanted behind the last chunk, too.
 fn skipped_from(bytes: &[u8], from: usize) -> usize
     requires { from ≤ length bytes.now }
     ensures within { result ≤ length bytes.now }

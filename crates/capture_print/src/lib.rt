@@ -1,4 +1,5 @@
-// What is printed for lines, and the totals.
+// What is printed for lines, and the totals. `as u64`, no u64::from: with it the check did not find that the line is the
+// number's.
 #![tactic(auto)]
 
 mod line;
@@ -51,7 +52,7 @@ fn kind_word(t: PacketType) -> &'static [u8]
 }
 
 // Prints a number's line: laid into out from index at on, and the index after it; at and nothing laid where it does not
-// fit.
+// fit. A number, no Refusal: what a public function is given stays as it was.
 pub fn put_code(number: u32, at: usize, out: &mut [u8]) -> usize
     ensures answer { result ≡ after at (code_line number) out.old }
     ensures output { out.new ≡ laid at (code_line number) out.old }

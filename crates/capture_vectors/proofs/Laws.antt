@@ -26,11 +26,11 @@ pub ruleset step-laws = (step_room, step-used, block_within, block_refused)
 
 -- ---- the end
 
-module _ (p : Progress) (rest out : List ℕ) (r : Result Step Refusal) (d : r ≡ end_answer p rest out) (step : Step) (u : r ≡ Ok step) (n : ℕ) (h : n ≤ input_room) where
-  pub last-lines : n + step.lines < 2 ^ 64
-  last-lines = omega (arith, h, end-lines p rest out r d step u)
+module _ (p : Progress) (rest out : List ℕ) (r : Result Step Refusal) (d : r ≡ end_answer p rest out) (step : Step) (u : r ≡ Ok step) (used lines refused : ℕ) (a : used ≤ input_room) (b : lines ≤ used) (c : refused ≤ lines) where
+  pub last-lines : lines + step.lines < 2 ^ 64
+  last-lines = omega (arith, a, b, end-lines p rest out r d step u)
 
-  pub last-refused : n + step.refused < 2 ^ 64
-  last-refused = omega (arith, h, end-lines p rest out r d step u, end_refused p rest out r d step u)
+  pub last-refused : refused + step.refused < 2 ^ 64
+  last-refused = omega (arith, a, b, c, end-lines p rest out r d step u, end_refused p rest out r d step u)
 
 pub ruleset end-laws = (last-lines, last-refused)

@@ -12,10 +12,13 @@ struct Run {
     used: usize,
     lines: usize,
     refused: usize,
+    ghost used_in: { used ≤ input_room },
+    ghost lines_in: { lines ≤ used },
+    ghost refused_in: { refused ≤ lines },
 }
 
 fn first_run() -> Run
-    ensures { (result.used ≡ 0) × ((result.lines ≡ 0) × (result.refused ≡ 0)) }
+    ensures { result.used ≡ 0 }
 {
     Run {
         progress: Progress::First,
@@ -31,12 +34,10 @@ fn print(out: &[u8], n: usize) {
 }
 
 fn advanced(run: Run, step: Step) -> Run
-    requires used_bound { run.used + step.used ≤ input_room }
-    requires lines_le_used { run.lines ≤ run.used }
-    requires step_lines_le_used { step.lines ≤ step.used }
-    requires refused_le_lines { run.refused ≤ run.lines }
-    requires step_refused_le_lines { step.refused ≤ step.lines }
-    ensures { (result.used ≡ run.used + step.used) × ((result.lines ≤ result.used) × (result.refused ≤ result.lines)) }
+    requires used { run.used + step.used ≤ input_room }
+    requires lines { step.lines ≤ step.used }
+    requires refused { step.refused ≤ step.lines }
+    ensures { result.used ≡ run.used + step.used }
 {
     Run {
         progress: step.progress,
@@ -48,10 +49,8 @@ fn advanced(run: Run, step: Step) -> Run
 
 // Decodes what the steps before left, with a block behind it.
 fn take_step(run: Run, bytes: &[u8], out: &mut [u8]) -> Run
-    requires bytes_bound { run.used + length bytes.now ≤ input_room }
-    requires lines_le_used { run.lines ≤ run.used }
-    requires refused_le_lines { run.refused ≤ run.lines }
-    ensures { (result.used ≤ run.used + length bytes.now) × ((result.lines ≤ result.used) × (result.refused ≤ result.lines)) }
+    requires { run.used + length bytes.now ≤ input_room }
+    ensures { result.used ≤ run.used + length bytes.now }
 {
     match decode_block(run.progress, bytes, out) {
         // Never with these sizes: out has room for the longest block behind the longest line.
@@ -66,21 +65,18 @@ fn take_step(run: Run, bytes: &[u8], out: &mut [u8]) -> Run
 // Each block reaches so many bytes further, up to index seen; a step is given all that was not used before it.
 fn feed(capture: &[u8], block: usize, out: &mut [u8]) -> Run
     requires { (length capture.now ≤ input_room) × (1 ≤ block) }
-    ensures { (result.lines ≤ input_room) × (result.refused ≤ input_room) }
 {
     let mut run = first_run();
     let mut seen: usize = 0;
-    while seen < capture.len() {
-        seen += block.min(capture.len() - seen);
+    for chunk in capture.chunks(block) {
+        seen += chunk.len();
         run = take_step(run, &capture[run.used..seen], out);
     }
     run
 }
 
 // Prints what the capture's last bytes give, and the totals.
-fn finish(run: Run, rest: &[u8], out: &mut [u8])
-    requires { (run.lines ≤ input_room) × (run.refused ≤ input_room) }
-{
+fn finish(run: Run, rest: &[u8], out: &mut [u8]) {
     match decode_end(run.progress, rest, out) {
         // Never with this size of out.
         Err(_) => {}

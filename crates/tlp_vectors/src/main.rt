@@ -18,43 +18,33 @@ use text::words::{part, value_at};
 use tlp::settings::Settings;
 use tlp_record::places::RECORD_SIZE;
 
-// The number of so many hexadecimal digits after a field; none after a field that is none.
+// The number of so many hexadecimal digits after a field. None after None.
 fn hex_next(line: &[u8], before: Option<Field>, width: usize) -> Option<Field>
     ensures { IfSome result (λ f. f.value < 16 ^ width) }
 {
     hex_after(line, before?.next, b" ", width)
 }
 
-// The value of a setting, and the index behind a field: 0 where there is none.
+// The value of a setting: 0 where there is none.
 fn setting(field: Option<Field>) -> u32
     requires { IfSome field (λ f. f.value < 16 ^ 8) }
 {
     field.map_or(0, |f| f.value as u32)
 }
 
+// The index behind a field: 0 where there is none.
 fn behind(field: Option<Field>) -> usize {
     field.map_or(0, |f| f.next)
 }
 
-// How many bytes were spelled, and the index after their digits.
-#[derive(Clone, Copy)]
-struct SpelledPart {
-    size: usize,
-    next: usize,
-}
-
-// The bytes that the digits behind the space at index at spell, over the front of out.
-fn bytes_after(line: &[u8], at: usize, out: &mut [u8]) -> SpelledPart {
-    match value_at(line, at, b" ") {
-        Some(place) => SpelledPart {
-            size: hex_bytes(part(line, place.from, place.to), out).unwrap_or(0),
-            next: place.to,
-        },
-        None => SpelledPart {
-            size: 0,
-            next: line.len(),
-        },
-    }
+// The bytes that the digits behind the space at index at spell, laid over the front of out, and the index after their
+// digits: no bytes and the line's end where none stand there.
+fn bytes_after<'a>(line: &[u8], at: usize, out: &'a mut [u8]) -> (&'a [u8], usize) {
+    let Some(place) = value_at(line, at, b" ") else {
+        return (&[], line.len());
+    };
+    let size = hex_bytes(part(line, place.from, place.to), out).unwrap_or(0);
+    (part(out, 0, size), place.to)
 }
 
 fn print(text: &[u8]) {
@@ -98,8 +88,7 @@ fn run_read(line: &[u8]) {
     let front = settings_part(line, b"r ");
     let settings = front.settings;
     let mut space = [0u8; 10000];
-    let digits = bytes_after(line, behind(front.end), &mut space);
-    let packet = part(&space, 0, digits.size);
+    let (packet, _) = bytes_after(line, behind(front.end), &mut space);
     let mut record = [0u8; RECORD_SIZE];
     let number = tlp_c::tollpebble_read(
         settings.mps,
@@ -109,7 +98,7 @@ fn run_read(line: &[u8]) {
         &mut record,
     );
     print(b"code=");
-    print_number(number as u64);
+    print_number(u64::from(number));
     if let Ok(p) = tlp_read::read(settings, packet) {
         print(b" record=");
         print_bytes(&record);
@@ -131,7 +120,7 @@ fn write_into(settings: Settings, record: &[u8], payload: &[u8], out: &mut [u8])
         &mut size,
     );
     print(b"code=");
-    print_number(number as u64);
+    print_number(u64::from(number));
     print(b" size=");
     print_number(size);
     print(b" out=");
@@ -146,17 +135,12 @@ fn run_write(line: &[u8]) {
     let room = hex_next(line, front.end, 4);
     let length = hex_next(line, room, 4);
     let mut record_space = [0u8; 10000];
-    let record = bytes_after(line, behind(length), &mut record_space);
+    let (record, next) = bytes_after(line, behind(length), &mut record_space);
     let mut payload_space = [0u8; 10000];
-    let payload = bytes_after(line, record.next, &mut payload_space);
+    let (payload, _) = bytes_after(line, next, &mut payload_space);
     let mut out = [0xeeu8; 10000];
     let used = out.len().min(room.map_or(0, |f| f.value as usize));
-    write_into(
-        front.settings,
-        part(&record_space, 0, record.size),
-        part(&payload_space, 0, payload.size),
-        &mut out[..used],
-    );
+    write_into(front.settings, record, payload, &mut out[..used]);
 }
 
 fn run_line(line: &[u8]) {
@@ -174,6 +158,7 @@ struct Ran {
     used: usize,
 }
 
+// Not by split: of its last part, which has no end yet, it says neither that it is the last nor where it starts.
 fn run_lines(text: &[u8]) -> Ran
     ensures { (result.used ≤ length text.now) × (result.lines ≤ result.used) }
 {

@@ -1,10 +1,9 @@
-use mathlib.Core.Path.{◌≡◌}
-use Prim.Native.Nat.{◌-◌, ◌≤◌}
-use lib.ListN.{length}
+use Rattle.std.proofs.Common.{◌≡◌, ◌+◌, ◌≤◌, length}
 use Rattle.capture_vectors.proofs.capture_run.feed.Given as goal
 
-abbrev pub invariant-loop-seen : goal.invariant-loop-seen
-invariant-loop-seen l = (length l.out ≡ length l.initial.out) × ((l.seen ≤ length l.capture) × ((l.run.used ≤ l.seen) × ((l.run.lines ≤ l.run.used) × (l.run.refused ≤ l.run.lines))))
-
-abbrev pub decreases-loop-seen : goal.decreases-loop-seen
-decreases-loop-seen l = length l.capture - l.seen
+abbrev pub invariant-loop-chunk : goal.invariant-loop-chunk
+invariant-loop-chunk l = record {
+  size : 1 ≤ l.chunk-iterator.size;
+  seen : l.seen + length l.chunk-iterator.rest.now ≡ length l.capture;
+  used : l.run.used ≤ l.seen;
+}
