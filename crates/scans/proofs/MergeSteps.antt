@@ -40,7 +40,7 @@ module _ (f : ℕ → Bool) where
   keeps k (d ∷ ds) (x ∷ xs) (suc i) = keeps (suc k) ds xs i
 
   module _ (k : ℕ) (ds xs part : List ℕ) (i : ℕ) (inv : part ≡ merged f k (take i ds) xs) (h : i < length ds) (l : i < length part) (z : length part ≡ length xs)
-    (r : Bool) (e : r ≡ f (k + i)) where
+      (r : Bool) (e : r ≡ f (k + i)) where
     -- one element more, that is laid
     pub merge-laid : r ≡ true → set part i (get_or ds i 0) ≡ merged f k (take (i + 1) ds) xs
     merge-laid t = rw (add-one, step k ds xs i h (omega arith), ← e, t, inv)

@@ -12,8 +12,9 @@ loop-i-init c = (refl, search merge-steps)
 pub loop-i-preserved : goal.loop-i-preserved
 loop-i-preserved c =
     elim c.if-enabled_at.branch [
-      then-enabled_at w ↦ (rw (w.part-is, length-set) (omega arith), rw w.part-is (search (merge-steps, rules)))
-    | else-enabled_at w ↦ (rw w.part-is (omega arith), rw w.part-is (search (merge-steps, rules))) ]
+      | then-enabled_at w ↦ (rw (w.part-is, length-set) (omega arith), rw w.part-is (search (merge-steps, rules)))
+      | else-enabled_at w ↦ (rw w.part-is (omega arith), rw w.part-is (search (merge-steps, rules)))
+    ]
 
 pub returns : goal.returns
 returns c = search (merge-steps, rules)
