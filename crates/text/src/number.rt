@@ -1,4 +1,5 @@
 // Numbers in a base, the highest digit first.
+// The digit is widened by `as`, not u64::from: with it the check did not find the next turn of number_in.
 ghost use Rattle.std.specs.Prelude.{◌≡◌, ◌+◌, ◌*◌, ◌<◌, ◌≤◌, length, nat_lt};
 ghost use Rattle.bits.specs.Put.{put};
 ghost use Rattle.text.specs.Base.{base_value};
