@@ -37,8 +37,7 @@ fn window_sum(store: &[u8; STORE]) -> u64 {
     sum
 }
 
-// The number of the first call that is refused. Open only measures its store, so it is lent another
-// of the same size.
+// The number of the first call that is refused. Open only measures its store, so it is lent another of the same size.
 fn turns_code(
     lent: bool,
     place: bool,

@@ -1,5 +1,5 @@
-// What is printed for lines, and the totals. `as u64`, no u64::from: with it the check did not find that the line is the
-// number's.
+// What is printed for lines, and the totals. `as u64`, no u64::from: with it the check did not find that the line is
+// the number's.
 #![tactic(auto)]
 
 mod line;

@@ -13,7 +13,7 @@ use crate::turn::{finish, lay_read, print, read_block};
 const TURNS: u64 = 140737488355328;
 
 // PRINTED_EACH bytes for each byte of the input's buffer: what decode_block asks for.
-const OUTPUT_ROOM: usize = 524288;
+pub(crate) const OUTPUT_ROOM: usize = 524288;
 
 fn main(rt: HostRuntime) {
     let mut input = rt.stdin();

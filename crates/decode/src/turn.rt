@@ -4,8 +4,9 @@ ghost use Rattle.std.specs.Prelude.{◌≡◌, ◌⊎◌, ◌+◌, ◌-◌, ◌�
 ghost use Rattle.text.specs.Words.{part};
 ghost use Rattle.decode.specs.Turns.{ended_run, stopped_run, after_step, kept_bytes, step_text, end_text};
 ghost use Rattle.decode.specs.Turns.{stage_in, block_in, turn_stage, turn_text, Reached, Prints};
-ghost use Rattle.decode.specs.Inner.Sizes.{input_room, output_room, lines_most, Counted, Ready};
+ghost use Rattle.decode.specs.Inner.Sizes.{input_room, lines_most, Counted, Ready};
 
+use crate::OUTPUT_ROOM;
 use crate::run::{Run, advanced, ended, stopped};
 use capture_blocks::{decode_block, decode_end, put_totals_of};
 use std::io::{Read, Write};
@@ -53,11 +54,11 @@ fn silent(run: Run) -> Laid
     Laid { run, written: 0 }
 }
 
-// Decodes the first n bytes of buf over the front of out, and moves what they leave to the front of buf.
-fn lay_step(run: Run, buf: &mut [u8], n: usize, out: &mut [u8]) -> Laid
+// Decodes the first n bytes of buf over the front of out, and moves what they leave to the front of buf. Counted stays
+// a clause, no invariant of Run: the run after the last step may count more.
+fn lay_step(run: Run, buf: &mut [u8], n: usize, out: &mut [u8; OUTPUT_ROOM]) -> Laid
     requires n_in_bounds { n ≤ length buf.old }
     requires n_le_input_room { n ≤ input_room }
-    requires out_len { length out.old ≡ output_room }
     requires counted { Counted lines_most run }
     ensures run { result.run ≡ after_step run (part buf.old 0 n) }
     ensures kept { part buf.new 0 result.run.kept ≡ kept_bytes run.progress (part buf.old 0 n) }
@@ -77,7 +78,12 @@ fn lay_step(run: Run, buf: &mut [u8], n: usize, out: &mut [u8]) -> Laid
 }
 
 // After a read behind the kept bytes that answered so: lays what it gave.
-pub(crate) fn lay_read(run: Run, answered: Option<usize>, buf: &mut [u8], out: &mut [u8]) -> Laid
+pub(crate) fn lay_read(
+    run: Run,
+    answered: Option<usize>,
+    buf: &mut [u8],
+    out: &mut [u8; OUTPUT_ROOM],
+) -> Laid
     requires ready { Ready run buf.old out.old }
     requires moved { IfSome answered (λ n. n ≤ length buf.old - run.kept) }
     ensures stage { stage_in result.run buf.new
@@ -114,8 +120,7 @@ pub(crate) fn print(rt: &(impl Print + Eprint), laid: Laid, out: &[u8]) -> Run
 }
 
 // At the end of the input: lays what the kept bytes give, and the totals.
-pub(crate) fn lay_end(run: Run, rest: &[u8], out: &mut [u8]) -> Laid
-    requires out_len { length out.old ≡ output_room }
+pub(crate) fn lay_end(run: Run, rest: &[u8], out: &mut [u8; OUTPUT_ROOM]) -> Laid
     requires counted { Counted lines_most run }
     ensures run { result.run ≡ ended_run run }
     ensures text { part out.new 0 result.written ≡ end_text run rest.now }
@@ -135,8 +140,7 @@ pub(crate) fn lay_end(run: Run, rest: &[u8], out: &mut [u8]) -> Laid
 }
 
 // Prints what the kept bytes give at the end of the input, and the totals.
-pub(crate) fn finish(rt: &(impl Print + Eprint), run: Run, buf: &[u8], out: &mut [u8])
-    requires out_len { length out.old ≡ output_room }
+pub(crate) fn finish(rt: &(impl Print + Eprint), run: Run, buf: &[u8], out: &mut [u8; OUTPUT_ROOM])
     requires counted { Counted lines_most run }
     requires reached { Reached (stage_in run buf.now) }
 {
