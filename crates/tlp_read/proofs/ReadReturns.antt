@@ -119,6 +119,21 @@ unfolding first
 row-5-passed r v true rs m q k e = let z : Ok v ≡ checked 5 = sym q ∙ k in cc
 row-5-passed r v false rs m q k e = e
 
+-- the same of 7 and 8
+pub rows-7-8-given : (q : Result Unit Refusal) (e : Refusal) (b c : Bool) (n : ℕ) → q ≡ Err e → Err e ≡ checked (first (row 7 b ∷ row 8 c ∷ []))
+    → (b ≡ true → 7 ≡ n) → (b ≡ false → c ≡ true → 8 ≡ n) → q ≡ checked n
+unfolding first
+rows-7-8-given q e true c n p k f g = rw (← f refl) (p ∙ k)
+rows-7-8-given q e false true n p k f g = rw (← g refl refl) (p ∙ k)
+rows-7-8-given q e false false n p k f g = let z : Err e ≡ Ok tt = k in cc
+
+pub rows-7-8-passed : (r : Result Unit Refusal) (v : Unit) (b c : Bool) (rs : List Row) (m : ℕ) → r ≡ Ok v → r ≡ checked (first (row 7 b ∷ row 8 c ∷ []))
+    → m ≡ first rs → m ≡ first (row 7 b ∷ row 8 c ∷ rs)
+unfolding first
+rows-7-8-passed r v true c rs m q k e = let z : Ok v ≡ checked 7 = sym q ∙ k in cc
+rows-7-8-passed r v false true rs m q k e = let z : Ok v ≡ checked 8 = sym q ∙ k in cc
+rows-7-8-passed r v false false rs m q k e = e
+
 -- a last test of a number that a call gave
 pub last-ne : (a b k : ℕ) → a ≡ b → not (eqb a k) ≡ not (eqb b k)
 last-ne a b k e = rw e

@@ -12,8 +12,8 @@ use crate::fields::{
     routing_at, traffic_class_at,
 };
 use bits::word::{byte_at, word32};
-use byte_enables::{Access, enables_allowed};
-use tlp::content::{crosses_page, not_plain};
+use byte_enables::Access;
+use tlp::content::{memory_fault, not_plain};
 use tlp::packet_type::{Family, data_follows, family_by_type, is_listed, is_wide};
 use tlp::refusal::Refusal;
 use tlp::size::{digest_at, digest_bytes, length_at};
@@ -124,13 +124,7 @@ impl<'a> Whole<'a> {
             return Err(Refusal::HintOrAddressType);
         }
         self.payload_fault()?;
-        let a = self.memory_access();
-        if !enables_allowed(a) {
-            return Err(Refusal::BadEnables);
-        }
-        if crosses_page(a) {
-            return Err(Refusal::Crosses4K);
-        }
+        memory_fault(self.memory_access())?;
         if wide_form_bad(self.bytes) {
             return Err(Refusal::Needless64BitForm);
         }
