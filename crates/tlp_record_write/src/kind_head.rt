@@ -15,7 +15,7 @@ use tlp::packet::{
     CompletionHeader, ConfigRequest, MessageRequest, Request, access_at, memory_form,
 };
 use tlp::packet_type::PacketType;
-use tlp::refusal::Refusal;
+use tlp::refusal::{Refusal, number_in};
 use tlp_record::places::{
     ATTRIBUTES, BYTE_COUNT, BYTE_COUNT_MODIFIED, DIGEST, DIGEST_PRESENT, EXTENDED_REGISTER,
     FIRST_ENABLES, KIND, LAST_ENABLES, LENGTH, LOWER_ADDRESS, MESSAGE_BYTES, MESSAGE_CODE,
@@ -231,7 +231,7 @@ pub(crate) fn kind_head_in(record: &[u8; RECORD_SIZE]) -> Option<KindHead>
 }
 
 // With what every kind has alike.
-#[tactic(auto, unfolding(tlp_record::specs::Record::record_packet))]
+#[tactic(auto, using(tlp_write::proofs::WriteLaws::faults_numbered), unfolding(tlp_record::specs::Record::record_packet))]
 pub(crate) fn whole_head(k: KindHead, record: &[u8; RECORD_SIZE]) -> Head
     requires { IsKindHead k «record».now }
     ensures { IsHead result (record_packet «record».now) }
@@ -239,7 +239,7 @@ pub(crate) fn whole_head(k: KindHead, record: &[u8; RECORD_SIZE]) -> Head
     Head {
         packet_type: k.packet_type,
         routing: k.routing,
-        fault: k.fault,
+        fault: number_in(k.fault),
         words: k.words,
         traffic_class: record[TRAFFIC_CLASS],
         attributes: record[ATTRIBUTES],

@@ -147,7 +147,7 @@ module _ (mps : ℕ) (h : Head) (fault : Result Unit Refusal) (payload out : Lis
 -- ---- any head
 
 -- the rows 6 to 8 give such a fault
-fault-kept : (a b c : Bool) → checked (pick a 6 (pick b 7 (pick c 8 0))) ≡ listed_fault (checked (pick a 6 (pick b 7 (pick c 8 0))))
+fault-kept : (a b c : Bool) → checked (pick a 6 (pick b 7 (pick c 8 0))) ≡ listed_fault (pick a 6 (pick b 7 (pick c 8 0)))
 unfolding refusal
 fault-kept true b c = refl
 fault-kept false true c = refl
@@ -172,13 +172,18 @@ fault-first false true c m = refl
 fault-first false false true m = refl
 fault-first false false false m = refl
 
-pub head-law : (p : Packet) (t : PacketType) (a : Access) (f : Family) (r : ℕ) (m : Result Unit Refusal) (w : Words) → t ≡ type_of p → a ≡ access_of p → f ≡ family_of t
-    → r ≡ routing_in p.route p.kind → m ≡ checked (first (fault_rows f a p.traffic_class p.attributes 0))
+-- the rows 6 to 8 are refusals'
+pub faults_numbered : (f : Family) (a : Access) (tc attr : ℕ) → number_in (checked (first (fault_rows f a tc attr 0))) ≡ first (fault_rows f a tc attr 0)
+unfolding refusal
+faults_numbered f a tc attr = number-answered tt (fault_rows f a tc attr 0) refl
+
+pub head-law : (p : Packet) (t : PacketType) (a : Access) (f : Family) (r n : ℕ) (m : Result Unit Refusal) (w : Words) → t ≡ type_of p → a ≡ access_of p → f ≡ family_of t
+    → r ≡ routing_in p.route p.kind → m ≡ checked (first (fault_rows f a p.traffic_class p.attributes 0)) → n ≡ number_in m
     → word_bytes w ≡ padded 12 (own_bytes p.route p.kind)
     → IsHead (record {
       packet_type = t;
       routing = r;
-      fault = m;
+      fault = n;
       words = w;
       traffic_class = p.traffic_class;
       attributes = p.attributes;
@@ -187,10 +192,10 @@ pub head-law : (p : Packet) (t : PacketType) (a : Access) (f : Family) (r : ℕ)
       digest = p.digest;
       length = a.length;
     }) p
-head-law p t a f r m w et ea ef er em ew = record {
+head-law p t a f r n m w et ea ef er em en ew = record {
   type_is = et;
   routing_is = er;
-  fault_is = em ∙ rw (ea, ef, et);
+  fault_is = en ∙ ap number_in em ∙ faults_numbered f a p.traffic_class p.attributes ∙ rw (ea, ef, et);
   words_are = ew;
   class_is = refl;
   attributes_are = refl;
@@ -230,24 +235,26 @@ module _ (h : Head) (p : Packet) (i : IsHead h p) where
   data-same : data_size h ≡ data_bytes (type_of p) (access_of p).length
   data-same = rw (i.type_is, i.length_is)
 
-  fault-same : h.fault ≡ listed_fault h.fault
+  fault-same : checked h.fault ≡ listed_fault h.fault
   unfolding first
   fault-same =
       let f = family_of (type_of p) in
       let a = access_of p in
       rw i.fault_is (fault-kept (plain_bad f a p.traffic_class p.attributes 0) (enables_bad f a) (page_bad f a))
 
-  fault-number : number_in h.fault ≡ first (fault_rows (family_of (type_of p)) (access_of p) p.traffic_class p.attributes 0)
-  unfolding refusal
-  fault-number = ap number_in i.fault_is ∙ number-answered tt (fault_rows (family_of (type_of p)) (access_of p) p.traffic_class p.attributes 0) refl
+  fault-number : number_in (listed_fault h.fault) ≡ first (fault_rows (family_of (type_of p)) (access_of p) p.traffic_class p.attributes 0)
+  fault-number =
+      ap number_in (sym fault-same)
+      ∙ ap (λ (n : ℕ). number_in (checked n)) i.fault_is
+      ∙ faults_numbered (family_of (type_of p)) (access_of p) p.traffic_class p.attributes
 
-  rows_same : (c : Settings) (n room : ℕ) → first (judged_rows c.mps h h.fault n room) ≡ first (later_rows c p n room)
+  rows_same : (c : Settings) (n room : ℕ) → first (judged_rows c.mps h (listed_fault h.fault) n room) ≡ first (later_rows c p n room)
   unfolding first
   rows_same c n room =
       let f = family_of (type_of p) in
       let a = access_of p in
       let d = data_bytes (type_of p) a.length in
-      ap (λ (x : ℕ). numbers_first c.mps n room x (number_in h.fault) (whole_size h)) data-same
+      ap (λ (x : ℕ). numbers_first c.mps n room x (number_in (listed_fault h.fault)) (whole_size h)) data-same
       ∙ ap (λ (x : ℕ). numbers_first c.mps n room d x (whole_size h)) fault-number
       ∙ ap (λ (x : ℕ). numbers_first c.mps n room d (first (fault_rows f a p.traffic_class p.attributes 0)) x) whole_same
       ∙ ap (λ (m : ℕ). pick (not (eqb n d)) 3 (pick (ltb c.mps d) 5 m))
@@ -267,27 +274,20 @@ module _ (h : Head) (p : Packet) (i : IsHead h p) where
 
   -- where no row of the settings or the fields holds, what is answered and written of the head is the packet's
   module _ (c : Settings) (e : Ok tt ≡ checked (first (field_rows c p))) where
-    answer-same : (n room : ℕ) → judged_answer c.mps h h.fault n room ≡ write_packet c p n room
+    answer-same : (n room : ℕ) → judged_answer c.mps h (listed_fault h.fault) n room ≡ write_packet c p n room
     unfolding judged_answer write_packet
     answer-same n room =
         let z = ok_number tt tt (first (field_rows c p)) e in
         rw (rows_same c n room, whole_same)
         (ap (λ (k : ℕ). answered k (size_of p)) (none_of (field_rows c p) (later_rows c p n room) (first (field_rows c p)) (first (later_rows c p n room)) refl refl z refl))
 
-    pub write-answer : (n room : ℕ) (x : Result ℕ Refusal) → x ≡ judged_answer c.mps h h.fault n room → x ≡ write_packet c p n room
-    write-answer n room x q = q ∙ answer-same n room
-
-    pub write-out : (payload out last : List ℕ) → last ≡ judged_out c.mps h h.fault payload out → last ≡ write_out c p payload out
-    unfolding judged_out write_out bytes_of
-    write-out payload out last q = q ∙ rw (answer-same (length payload) (length out), bytes_same, digest-same)
-
     pub head-answer : (n room : ℕ) (x : Result ℕ Refusal) → x ≡ head_answer c.mps h n room → x ≡ write_packet c p n room
     unfolding head_answer
-    head-answer n room x q = rw (← fault-same) at q ∙ answer-same n room
+    head-answer n room x q = q ∙ answer-same n room
 
     pub head-out : (payload out last : List ℕ) → last ≡ head_out c.mps h payload out → last ≡ write_out c p payload out
-    unfolding head_out
-    head-out payload out last q = write-out payload out last (q ∙ ap (λ (x : Result Unit Refusal). judged_out c.mps h x payload out) (sym fault-same))
+    unfolding head_out judged_out write_out bytes_of
+    head-out payload out last q = q ∙ rw (answer-same (length payload) (length out), bytes_same, digest-same)
 
 -- ---- with the rows of the settings' and the packet's fields
 

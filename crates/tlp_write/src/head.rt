@@ -8,15 +8,15 @@ use crate::words::{Words, own_words};
 use tlp::content::fault_of;
 use tlp::packet::{Implicit, Kind, Packet, Route, access_of, type_of};
 use tlp::packet_type::{PacketType, family_of, first_byte};
-use tlp::refusal::Refusal;
+use tlp::refusal::{Refusal, number_in};
 
 #[derive(Clone, Copy, Debug, PartialEq, Eq)]
 pub struct Head {
     pub packet_type: PacketType,
     // What byte 0 has beside the type: a message's routing.
     pub routing: u8,
-    // The first of the rows 6 to 8 that holds; any other refusal is none.
-    pub fault: Result<(), Refusal>,
+    // The first of the rows 6 to 8 that holds; any other number is none.
+    pub fault: u32,
     pub words: Words,
     pub traffic_class: u8,
     pub attributes: u8,
@@ -27,12 +27,16 @@ pub struct Head {
     pub length: u32,
 }
 
-// No other fault than those of the rows 6 to 8 is handed on.
-pub(crate) fn listed_fault(fault: Result<(), Refusal>) -> Result<(), Refusal>
+// No other fault than those of the rows 6 to 8 is handed on. A number, no Refusal: what a public function is given
+// stays as it was.
+#[tactic(auto, unfolding(tlp::specs::Refusals::refusal))]
+pub(crate) fn listed_fault(fault: u32) -> Result<(), Refusal>
     ensures { result ≡ listed_fault fault }
 {
     match fault {
-        Err(Refusal::BadField | Refusal::BadEnables | Refusal::Crosses4K) => fault,
+        6 => Err(Refusal::BadField),
+        7 => Err(Refusal::BadEnables),
+        8 => Err(Refusal::Crosses4K),
         _ => Ok(()),
     }
 }
@@ -77,13 +81,13 @@ pub(crate) fn head_of(p: Packet) -> Head
     Head {
         packet_type,
         routing: routing_in(p.route, p.kind),
-        fault: fault_of(
+        fault: number_in(fault_of(
             family_of(packet_type),
             access,
             p.traffic_class,
             p.attributes,
             0,
-        ),
+        )),
         words: own_words(p.route, p.kind),
         traffic_class: p.traffic_class,
         attributes: p.attributes,

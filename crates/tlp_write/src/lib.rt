@@ -146,6 +146,5 @@ pub fn write(
     ensures out_after { out.new ≡ write_out settings p payload.now out.old }
 {
     field_fault(settings, p)?;
-    let h = head_of(p);
-    write_judged(settings.mps, h, h.fault, payload, out)
+    write_head(settings.mps, head_of(p), payload, out)
 }

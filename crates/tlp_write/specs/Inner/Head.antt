@@ -1,12 +1,12 @@
 -- For the contract of write_head, on which the writer of records builds, and of what writes a head: what writing needs
 -- to know of a packet beside its payload, the header in words. Of a packet's own head it is what specs/Write says
 -- (IsHead; proofs/WriteLaws).
-use Rattle.std.specs.Prelude.{ℕ, ◌+◌, ◌*◌, ◌≡◌, not, ◌&&◌, List, [], ◌∷◌, ◌++◌, eqb, leb, ltb, length, take, Result, Ok, Err}
+use Rattle.std.specs.Prelude.{ℕ, ◌+◌, ◌*◌, ◌≡◌, not, List, [], ◌∷◌, ◌++◌, eqb, ltb, length, take, Result}
 use Rattle.bits.specs.Choice.{pick, flag}
 use Rattle.bits.specs.Field.{field, low}
 use Rattle.bits.specs.Word.{bytes}
 use Rattle.tlp.specs.Rows.{Row, row, first}
-use Rattle.tlp.specs.Refusals.{number, answered, checked, number_in}
+use Rattle.tlp.specs.Refusals.{answered, checked, number_in}
 use Rattle.tlp.specs.PacketTypes.{first_byte, header_dw, family_of}
 use Rattle.tlp.specs.Packets.{type_of, access_of}
 use Rattle.tlp.specs.Sizes.{data_bytes, digest_bytes}
@@ -48,10 +48,9 @@ data_size h = data_bytes h.packet_type h.length
 abbrev pub whole_size : Head → ℕ
 whole_size h = head_size h + data_size h + digest_bytes h.has_digest
 
--- a head's fault: those of the rows 6 to 8 alone are handed on
-abbrev pub listed_fault : Result Unit Refusal → Result Unit Refusal
-listed_fault (Ok u) = Ok u
-listed_fault (Err r) = pick (leb 6 (number r) && leb (number r) 8) (Err r) (Ok tt)
+-- a head's fault: the numbers of the rows 6 to 8 alone are handed on
+abbrev pub listed_fault : ℕ → Result Unit Refusal
+listed_fault n = checked (pick (ltb n 6) 0 (pick (ltb 8 n) 0 n))
 
 -- ---- with a fault that is known: the rows 3, 5, the fault and 12, for a payload of n bytes and an output of room bytes
 
@@ -82,7 +81,7 @@ head_out mps h payload out = judged_out mps h (listed_fault h.fault) payload out
 pub record IsHead (h : Head) (p : Packet) : Type 0 where
   pub type_is : h.packet_type ≡ type_of p
   pub routing_is : h.routing ≡ routing_in p.route p.kind
-  pub fault_is : h.fault ≡ checked (first (fault_rows (family_of (type_of p)) (access_of p) p.traffic_class p.attributes 0))
+  pub fault_is : h.fault ≡ first (fault_rows (family_of (type_of p)) (access_of p) p.traffic_class p.attributes 0)
   pub words_are : word_bytes h.words ≡ padded 12 (own_bytes p.route p.kind)
   pub class_is : h.traffic_class ≡ p.traffic_class
   pub attributes_are : h.attributes ≡ p.attributes
