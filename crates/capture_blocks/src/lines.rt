@@ -2,7 +2,7 @@
 ghost use Rattle.std.specs.Prelude.{◌≡◌, ◌-◌, ◌≤◌, ◌<◌, length, IfSome};
 ghost use Rattle.bits.specs.Put.{put};
 ghost use Rattle.text.specs.Laid.{laid};
-ghost use Rattle.capture_print.specs.Outputs.{output_line};
+ghost use Rattle.capture_print.specs.Outputs.{answer_line, output_line};
 ghost use Rattle.capture_blocks.specs.Inner.Rooms.{Room};
 ghost use Rattle.capture_blocks.specs.Inner.Lines.{printed_line, line_done, line_over, decoded_from, lines_from};
 
@@ -26,13 +26,24 @@ struct LineDone {
     refused: usize,
 }
 
+// The same answer, with a refusal as its number: that is what is printed of it.
+#[tactic(auto, unfolding(capture_print::specs::Outputs::answer_line, capture_print::specs::Outputs::output_line))]
+fn numbered(answer: Result<Packet, Refusal>) -> Result<Packet, u32>
+    ensures { answer_line result ≡ output_line answer }
+{
+    match answer {
+        Ok(packet) => Ok(packet),
+        Err(refusal) => Err(refusal.number()),
+    }
+}
+
 fn print_line(answer: Result<Packet, Refusal>, end: usize, at: usize, out: &mut [u8]) -> LineDone
     ensures answer { result ≡ printed_line answer end at out.old }
     ensures output { out.new ≡ laid at (output_line answer) out.old }
 {
     LineDone {
         end,
-        written: put_answer(answer, at, out),
+        written: put_answer(numbered(answer), at, out),
         refused: usize::from(answer.is_err()),
     }
 }

@@ -34,6 +34,11 @@ unfoldable pub packet_output : Packet → List ℕ
 packet_output p =
     accepted_key ++ (kind_word (type_of p) ++ (tag_key ++ (decimal_text (tag_in p.kind) ++ (dw_key ++ (decimal_text (access_of p).length ++ newline)))))
 
+-- a packet, or a number that says why there is none, whatever number it is
+unfoldable pub answer_line : Result Packet ℕ → List ℕ
+answer_line (Ok p) = packet_output p
+answer_line (Err number) = code_line number
+
 -- a packet, or the number that says why there is none; "any other bad line .. gives `code=13`"
 unfoldable pub output_line : Result Packet Refusal → List ℕ
 output_line (Ok p) = packet_output p

@@ -7,12 +7,11 @@ mod line;
 ghost use Rattle.std.specs.Prelude.{◌≡◌, ◌≤◌, length};
 ghost use Rattle.text.specs.Laid.{laid, after};
 ghost use Rattle.capture_print.specs.Words.{kind_word};
-ghost use Rattle.capture_print.specs.Outputs.{tag_in, code_line, packet_output, output_line, totals_line};
+ghost use Rattle.capture_print.specs.Outputs.{tag_in, code_line, packet_output, answer_line, totals_line};
 
 use crate::line::Line;
 use tlp::packet::{Kind, Packet, access_of, type_of};
 use tlp::packet_type::PacketType;
-use tlp::refusal::Refusal;
 
 fn tag_in(kind: Kind) -> u8
     ensures { result ≡ tag_in kind }
@@ -79,16 +78,16 @@ fn put_packet(packet: Packet, at: usize, out: &mut [u8]) -> usize
     line.put(at, out)
 }
 
-// Prints what a line after the first gave, as put_code does its line: the packet that was read, or the refusal of the
-// packet or of the line.
-#[tactic(auto, unfolding(crate::specs::Outputs::output_line))]
-pub fn put_answer(answer: Result<Packet, Refusal>, at: usize, out: &mut [u8]) -> usize
-    ensures answer { result ≡ after at (output_line answer) out.old }
-    ensures output { out.new ≡ laid at (output_line answer) out.old }
+// Prints what a line after the first gave, as put_code does its line: the packet that was read, or the number of the
+// refusal of the packet or of the line. Any number is printed, as by put_code.
+#[tactic(auto, unfolding(crate::specs::Outputs::answer_line))]
+pub fn put_answer(answer: Result<Packet, u32>, at: usize, out: &mut [u8]) -> usize
+    ensures answer { result ≡ after at (answer_line answer) out.old }
+    ensures output { out.new ≡ laid at (answer_line answer) out.old }
 {
     match answer {
         Ok(packet) => put_packet(packet, at, out),
-        Err(refusal) => put_code(refusal.number(), at, out),
+        Err(number) => put_code(number, at, out),
     }
 }
 
