@@ -52,7 +52,7 @@ fn main(rt: HostRuntime) {
         let got = read_behind(&mut input, &mut buf, kept);
         let n = kept + got;
         let used = lines_end(&buf[..n]);
-        t = answer_lines(&buf[..used], t, &mut lent, &mut store);
+        answer_lines(&buf[..used], &mut t, &mut lent, &mut store);
         kept = keep_rest(&mut buf, used, n);
         if got == 0 {
             break;

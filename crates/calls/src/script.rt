@@ -17,34 +17,23 @@ pub(crate) fn lines_end(text: &[u8]) -> usize
     }
 }
 
-// The table after a line, which is given without its newline.
-fn answer_line(line: &[u8], t: Table, lent: &mut usize, store: &mut Space) -> Table {
+// Answers a line, which is given without its newline.
+fn answer_line(line: &[u8], t: &mut Table, lent: &mut usize, store: &mut Space) {
     let answered = if line.len() < LINE_MOST {
         run(line, t, lent, store)
     } else {
         None
     };
-    match answered {
-        Some(next) => next,
-        None => {
-            print_bad();
-            t
-        }
+    if answered.is_none() {
+        print_bad();
     }
 }
 
-// The table after the lines of a text that ends with a newline, or is empty and has none.
-pub(crate) fn answer_lines(
-    text: &[u8],
-    first: Table,
-    lent: &mut usize,
-    store: &mut Space,
-) -> Table {
-    let mut t = first;
+// Answers the lines of a text that ends with a newline, or is empty and has none.
+pub(crate) fn answer_lines(text: &[u8], t: &mut Table, lent: &mut usize, store: &mut Space) {
     if let Some(lines) = text.strip_suffix(b"\n") {
         for line in lines.split(|b| *b == b'\n') {
-            t = answer_line(line, t, lent, store);
+            answer_line(line, t, lent, store);
         }
     }
-    t
 }

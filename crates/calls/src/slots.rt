@@ -1,4 +1,4 @@
-// Lines that reach into the table, unchecked. Each answers the table from here on, None for a bad line.
+// Lines that reach into the table, unchecked. Each answers None for a bad line, of which nothing is done.
 use crate::field::{last_value, only_value};
 use crate::form::{read_part, settings_part};
 use calls_printed::print::{print_record, print_words};
@@ -14,13 +14,13 @@ fn may_open(o: Origin, tag: u64) -> bool {
     tag < u64::from(tag_limit(o.settings))
 }
 
-pub(crate) fn run_record(line: &[u8], t: Table) -> Option<Table> {
+pub(crate) fn run_record(line: &[u8], t: &Table) -> Option<()> {
     let tag = only_value(line, b"record tag=", MOST_32)?;
     if !may_open(t.origin, tag) {
         return None;
     }
     print_record(tag, record_at(&t.opened, &t.words, tag as usize));
-    Some(t)
+    Some(())
 }
 
 // What a line puts at a tag.
@@ -46,22 +46,22 @@ fn force_in(line: &[u8]) -> Option<Forced> {
     })
 }
 
-pub(crate) fn run_force(line: &[u8], mut t: Table) -> Option<Table> {
+pub(crate) fn run_force(line: &[u8], t: &mut Table) -> Option<()> {
     let f = force_in(line)?;
     if !may_open(t.origin, f.tag) {
         return None;
     }
     put_state(&mut t.opened, &mut t.words, f.tag as usize, Some(f.read));
     print_words(b"force");
-    Some(t)
+    Some(())
 }
 
-pub(crate) fn run_settings(line: &[u8], mut t: Table) -> Option<Table> {
+pub(crate) fn run_settings(line: &[u8], t: &mut Table) -> Option<()> {
     let front = settings_part(line, b"settings mps=")?;
     if front.next != line.len() {
         return None;
     }
     t.origin.settings = front.settings;
     print_words(b"settings");
-    Some(t)
+    Some(())
 }

@@ -1,4 +1,4 @@
-// Lines that call the table. Each answers the table from here on, None for a bad line.
+// Lines that call the table, which is changed in place. Each answers None for a bad line, of which nothing is done.
 ghost use Rattle.std.specs.Prelude.{◌≤◌, IfSome};
 
 use crate::field::{last_value, only_value};
@@ -23,8 +23,9 @@ fn origin_in(line: &[u8]) -> Option<Origin> {
     })
 }
 
-pub(crate) fn run_new(line: &[u8], store: &mut [u8]) -> Option<Table> {
-    Some(make_new(origin_in(line)?, store))
+pub(crate) fn run_new(line: &[u8], t: &mut Table, store: &mut [u8]) -> Option<()> {
+    *t = make_new(origin_in(line)?, store);
+    Some(())
 }
 
 // The most bytes of an output.
@@ -57,10 +58,11 @@ fn open_in(line: &[u8]) -> Option<Asked>
     })
 }
 
-pub(crate) fn run_open(line: &[u8], t: Table, store: &[u8]) -> Option<Table> {
+pub(crate) fn run_open(line: &[u8], t: &mut Table, store: &[u8]) -> Option<()> {
     let a = open_in(line)?;
     let mut space = [238u8; OUT_MOST];
-    Some(open_into(a.request, a.tag, t, store, &mut space[..a.room]))
+    *t = open_into(a.request, a.tag, *t, store, &mut space[..a.room]);
+    Some(())
 }
 
 // The packet whose digits follow the key up to the line's end, laid over the front of a space.
@@ -70,21 +72,23 @@ fn packet_in<'a>(line: &[u8], space: &'a mut [u8]) -> Option<&'a [u8]> {
     Some(part(space, 0, n))
 }
 
-pub(crate) fn run_take(line: &[u8], t: Table, store: &mut [u8]) -> Option<Table> {
+pub(crate) fn run_take(line: &[u8], t: &mut Table, store: &mut [u8]) -> Option<()> {
     let mut space = [0u8; LINE_MOST / 2];
     let packet = packet_in(line, &mut space)?;
-    Some(take_packet(packet, t, store))
+    *t = take_packet(packet, *t, store);
+    Some(())
 }
 
-pub(crate) fn run_withdraw(line: &[u8], t: Table) -> Option<Table> {
+pub(crate) fn run_withdraw(line: &[u8], t: &mut Table) -> Option<()> {
     let tag = only_value(line, b"withdraw tag=", MOST_32)?;
-    Some(withdraw_tag(tag as u32, t))
+    *t = withdraw_tag(tag as u32, *t);
+    Some(())
 }
 
-pub(crate) fn run_owed(line: &[u8], t: Table) -> Option<Table> {
+pub(crate) fn run_owed(line: &[u8], t: &Table) -> Option<()> {
     if line != b"owed".as_slice() {
         return None;
     }
-    print_owed(t.owed());
-    Some(t)
+    print_owed(t.owed().map_err(|refusal| refusal.number()));
+    Some(())
 }

@@ -46,7 +46,7 @@ impl Line {
         self.size = put_hex_fixed(n, 16, self.size, &mut self.bytes);
     }
 
-    pub(crate) fn write(mut self) {
+    pub(crate) fn write(&mut self) {
         self.add(b"\n");
         io::write_all(1, part(&self.bytes, 0, self.size));
     }

@@ -53,11 +53,11 @@ pub(crate) fn print_withdraw(answer: Result<(), Refusal>) {
     print_number(b"withdraw code=", u64::from(number_in(answer)));
 }
 
-// What `owed` answered.
-pub fn print_owed(answer: Result<u64, Refusal>) {
+// What `owed` answered, or a number that it is refused by, whatever number it is.
+pub fn print_owed(answer: Result<u64, u32>) {
     match answer {
         Ok(n) => print_number(b"owed dw=", n),
-        Err(refusal) => print_number(b"owed code=", u64::from(refusal.number())),
+        Err(number) => print_number(b"owed code=", u64::from(number)),
     }
 }
 
