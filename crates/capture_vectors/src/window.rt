@@ -1,6 +1,6 @@
 // The part of the input that is in the buffer.
-ghost use Rattle.std.specs.Prelude.{◌≤◌};
-ghost use Rattle.capture_vectors.specs.Inner.Sizes.{input_room};
+ghost use Rattle.std.specs.Prelude.{◌≡◌, ◌≤◌, length};
+ghost use Rattle.capture_vectors.specs.Inner.Sizes.{input_room, output_room};
 
 use crate::INPUT_ROOM;
 use crate::frame::{FRAME_MOST, run_frame};
@@ -15,7 +15,9 @@ pub(crate) struct Window {
     ghost end_in: { end ≤ input_room },
 }
 
-pub(crate) fn empty_window() -> Window {
+pub(crate) fn empty_window() -> Window
+    ensures { (result.at ≡ 0) × (result.end ≡ 0) }
+{
     Window { at: 0, end: 0 }
 }
 
@@ -38,7 +40,9 @@ pub(crate) fn take_turn(
     before: Window,
     buf: &mut [u8; INPUT_ROOM],
     out: &mut [u8],
-) -> Option<Window> {
+) -> Option<Window>
+    requires { length out.old ≡ output_room }
+{
     let w = refill(before, buf);
     let used = run_frame(&buf[w.at..w.end], out)?;
     Some(Window {
