@@ -3,7 +3,8 @@ use mathlib.Core.Path.{◌≡◌, refl, sym, ap, ◌∙◌}
 use mathlib.Core.Bool.{Bool, true, false}
 use mathlib.Core.Logic.{◌⊎◌, inl, inr, ⊎_elim}
 use Prim.Native.Nat.{ℕ, zero, suc, min, ◌+◌, ◌-◌, ◌*◌, ◌/◌, ◌%◌, ◌^◌, ◌≤◌, ◌<◌}
-use native.Mathlib.Nat.{eq-zero-or-pos, mod-eq_of_lt, mod-lt, mod-one, div-one, pow-suc, zero-add, zero-mul, le-suc, lt-div-mul-add, div-mul-le_self, lt_of_not-le, not-le_of_lt, lt_of_le_of_lt, min-zero, zero-min, suc-min-suc}
+use native.Mathlib.Nat.{eq-zero-or-pos, mod-eq_of_lt, mod-lt, mod-one, div-one, pow-suc, zero-add, zero-mul, le-suc, lt-div-mul-add, div-mul-le_self, lt_of_not-le, not-le_of_lt, lt_of_le_of_lt, lt_of_lt_of_le, min-zero, zero-min, suc-min-suc}
+use native.Mathlib.Decide.{le_ind}
 use native.Mathlib.Numerals.{add-one, one-add}
 use native.Mathlib.Omega.{arith}
 use lib.Arith.{lt-one}
@@ -52,6 +53,18 @@ trailing-least zero k x l = min-zero _
 trailing-least (suc j) zero x l = absurd (omega arith)
 trailing-least (suc j) (suc k) x l =
     ⊎_elim (λ e. rw e (suc-min-suc _ _ ∙ ap suc (trailing-least j k (x / 2) (omega arith)))) (λ e. rw e (zero-min _)) (two_cases x)
+
+-- a number of j bits that is not 0 has as many zeros below at any greater width
+below_more : (k n : ℕ) → 0 < n → n < 2 ^ k → count_trailing_zeros (suc k) n ≡ count_trailing_zeros k n
+unfolding count_trailing_zeros
+below_more zero n p h = absurd (omega (arith, lt-one h))
+below_more (suc k) n p h =
+    ⊎_elim (λ e. rw e (ap suc (below_more k (n / 2) (omega arith) (half_lt k n h)))) (λ e. rw e refl) (two_cases n)
+
+pub trailing_narrow : (j k x : ℕ) → j ≤ k → 0 < x → x < 2 ^ j → count_trailing_zeros k x ≡ count_trailing_zeros j x
+trailing_narrow j k x l p h =
+    le_ind (λ (m : ℕ). count_trailing_zeros m x ≡ count_trailing_zeros j x) refl
+    (λ m q e. below_more m x p (lt_of_lt_of_le h (pow_mono q)) ∙ e) k l
 
 -- a number of j bits has k - j zeros more above at the width k
 pub leading_narrow : (j k x : ℕ) → j ≤ k → x < 2 ^ j → count_leading_zeros k x ≡ count_leading_zeros j x + (k - j)

@@ -80,6 +80,11 @@ accepted x y n e h = rw (← e, h) refl
 pub through : {A : Type 0} (r : Result A Refusal) (x : A) (n m : ℕ) → r ≡ answered n x → n ≡ m → r ≡ answered m x
 through r x n m p q = p ∙ ap (λ k. answered k x) q
 
+-- an answer without a number is the value, whatever number gave it
+pub accepted-answered : {A : Type 0} (n : ℕ) (x : A) → number_in (answered n x) ≡ 0 → answered n x ≡ Ok x
+accepted-answered zero x e = refl
+accepted-answered (suc n) x e = absurd (numbered (refusal (suc n)) (sym e))
+
 -- the number of an answer is the one that the rows give, where all of theirs are refusals'
 counted : {A : Type 0} (x : A) (n : ℕ) → eqb (number (refusal n)) n ≡ true → number_in (answered n x) ≡ n
 counted x zero h = refl
