@@ -28,7 +28,8 @@ HEADER = "host/include/tollpebble.h"
 SIZES = {"README.md": 8192, "docs/PROMISES.md": 69632}
 COLUMNS = 120
 ENTRY_LINES = 15
-# PROMISES has a check of its own (promises.py); LANDINGS, DESIGN-PASS and LOOK-BACK are history, with the names of their day.
+# PROMISES has a check of its own (promises.py); LANDINGS, DESIGN-PASS and LOOK-BACK are history, with the names of their
+# day.
 HISTORY = ["docs/LANDINGS.md", "docs/DESIGN-PASS.md", "docs/LOOK-BACK.md"]
 NAMES_UNCHECKED = ["docs/PROMISES.md"] + HISTORY
 # The crates of the kit that documents name functions of.

@@ -2,7 +2,7 @@
 ghost use Rattle.std.specs.Prelude.{◌≡◌, ◌-◌, ◌≤◌, ◌<◌, length, IfSome};
 ghost use Rattle.bits.specs.Put.{put};
 ghost use Rattle.text.specs.Laid.{laid};
-ghost use Rattle.capture_print.specs.Outputs.{answer_line, output_line};
+ghost use Rattle.capture_print.specs.Outputs.{numbered, output_line};
 ghost use Rattle.capture_blocks.specs.Inner.Rooms.{Room};
 ghost use Rattle.capture_blocks.specs.Inner.Lines.{printed_line, line_done, line_over, decoded_from, lines_from};
 
@@ -27,9 +27,8 @@ struct LineDone {
 }
 
 // The same answer, with a refusal as its number: that is what is printed of it.
-#[tactic(auto, unfolding(capture_print::specs::Outputs::answer_line, capture_print::specs::Outputs::output_line))]
 fn numbered(answer: Result<Packet, Refusal>) -> Result<Packet, u32>
-    ensures { answer_line result ≡ output_line answer }
+    ensures { result ≡ numbered answer }
 {
     match answer {
         Ok(packet) => Ok(packet),
@@ -37,6 +36,7 @@ fn numbered(answer: Result<Packet, Refusal>) -> Result<Packet, u32>
     }
 }
 
+#[tactic(auto, unfolding(capture_print::specs::Outputs::output_line))]
 fn print_line(answer: Result<Packet, Refusal>, end: usize, at: usize, out: &mut [u8]) -> LineDone
     ensures answer { result ≡ printed_line answer end at out.old }
     ensures output { out.new ≡ laid at (output_line answer) out.old }

@@ -1,5 +1,6 @@
 -- What is printed: a line for each packet line, and the totals. Document 01 shows it by its whole case, and says that
--- "dw is 0 for Msg and Cpl". What a reader must believe: code_line, output_line and totals_line.
+-- "dw is 0 for Msg and Cpl". What a reader must believe: code_line, answer_line, output_line and
+-- totals_line.
 use Rattle.std.specs.Prelude.{ℕ, List, ◌++◌, Result, Ok, Err}
 use Rattle.text.specs.Decimal.{decimal_text}
 use Rattle.tlp.specs.Packets.{type_of, access_of}
@@ -35,14 +36,18 @@ packet_output p =
     accepted_key ++ (kind_word (type_of p) ++ (tag_key ++ (decimal_text (tag_in p.kind) ++ (dw_key ++ (decimal_text (access_of p).length ++ newline)))))
 
 -- a packet, or a number that says why there is none, whatever number it is
-unfoldable pub answer_line : Result Packet ℕ → List ℕ
+abbrev pub answer_line : Result Packet ℕ → List ℕ
 answer_line (Ok p) = packet_output p
 answer_line (Err number) = code_line number
 
--- a packet, or the number that says why there is none; "any other bad line .. gives `code=13`"
+-- an answer with its refusal as the number
+abbrev pub numbered : Result Packet Refusal → Result Packet ℕ
+numbered (Ok p) = Ok p
+numbered (Err r) = Err (number r)
+
+-- what is printed of an answer; "any other bad line .. gives `code=13`"
 unfoldable pub output_line : Result Packet Refusal → List ℕ
-output_line (Ok p) = packet_output p
-output_line (Err r) = code_line (number r)
+output_line answer = answer_line (numbered answer)
 
 unfoldable pub totals_line : ℕ → ℕ → List ℕ
 totals_line lines refused = lines_key ++ (decimal_text lines ++ (refused_key ++ (decimal_text refused ++ newline)))

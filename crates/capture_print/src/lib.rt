@@ -80,7 +80,6 @@ fn put_packet(packet: Packet, at: usize, out: &mut [u8]) -> usize
 
 // Prints what a line after the first gave, as put_code does its line: the packet that was read, or the number of the
 // refusal of the packet or of the line. Any number is printed, as by put_code.
-#[tactic(auto, unfolding(crate::specs::Outputs::answer_line))]
 pub fn put_answer(answer: Result<Packet, u32>, at: usize, out: &mut [u8]) -> usize
     ensures answer { result ≡ after at (answer_line answer) out.old }
     ensures output { out.new ≡ laid at (answer_line answer) out.old }
