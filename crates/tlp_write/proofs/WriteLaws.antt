@@ -289,6 +289,14 @@ module _ (h : Head) (p : Packet) (i : IsHead h p) where
     unfolding head_out judged_out write_out bytes_of
     head-out payload out last q = q ∙ rw (answer-same (length payload) (length out), bytes_same, digest-same)
 
+    -- the same of a head whose fault is told as it stands: of a packet's head it is one of the rows 6 to 8, or none
+    pub write-answer : (n room : ℕ) (x : Result ℕ Refusal) → x ≡ judged_answer c.mps h (checked h.fault) n room → x ≡ write_packet c p n room
+    write-answer n room x q = rw fault-same at q ∙ answer-same n room
+
+    pub write-out : (payload out last : List ℕ) → last ≡ judged_out c.mps h (checked h.fault) payload out → last ≡ write_out c p payload out
+    unfolding head_out
+    write-out payload out last q = head-out payload out last (rw fault-same at q)
+
 -- ---- with the rows of the settings' and the packet's fields
 
 module _ (c : Settings) (p : Packet) (r : Refusal) (e : Err r ≡ checked (first (field_rows c p))) where
